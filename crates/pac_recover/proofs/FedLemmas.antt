@@ -1,5 +1,5 @@
 -- What a feed of a log gives: nothing at first, then batch after batch, and how it ends.
-use Rattle.std.proofs.Common.{◌≡◌, ◌∙◌, All, ℕ, Bool, false, true≢false, List, [], ◌∷◌, ◌++◌, length, map, Option, Some, None, is_some, Result, Ok, Err, refl, sym, ap, subst}
+use Rattle.std.proofs.Common.{◌≡◌, ◌≤◌, ◌+◌, ◌-◌, ◌∙◌, All, ℕ, Bool, false, true≢false, List, [], ◌∷◌, ◌++◌, length, map, Option, Some, None, is_some, Ok, Err, refl, sym, ap, subst, arith}
 use Rattle.std.specs.Prelude.{slice_get, IsSomeAnd, option_map}
 use Rattle.std.specs.List.{AllByRecursion}
 use Rattle.std.proofs.lemmas.List.Elements.{recursion_from_All}
@@ -21,12 +21,13 @@ use Rattle.pac_flat.specs.FlatForm.{program_of}
 use Rattle.pac_log.specs.declared.errors.LogError.{LogError}
 use Rattle.pac_log.specs.declared.errors.LogError.TheVariants as error
 use Rattle.pac_log.specs.declared.position.NextGate.{NextGate}
+use Rattle.pac_log.specs.Bodies.{body_bytes}
 use Rattle.pac_log.specs.Logs.{HoldsLog}
 use Rattle.pac_log.specs.Places.{IsAfter}
 use Rattle.pac_log.specs.Reading.{IsNextBatch, first_batch}
 use Rattle.pac_recover.specs.declared.log_feed.FeedEnd.{FeedEnd}
 use Rattle.pac_recover.specs.declared.log_feed.FeedEnd.TheVariants.{Window, End, Refused}
-use Rattle.pac_recover.specs.FedLogs.{AreCounted, EndsAs, IsGivenOfLog, IsPartOf}
+use Rattle.pac_recover.specs.FedLogs.{AreBodiesCounted, AreCounted, EndsAs, FillsAs, IsGivenOfLog, IsPartOf, bodies_len}
 use Rattle.pac_recover.specs.Gates.{txns_by_batch}
 use Rattle.pac_recover.proofs.WindowLemmas.{Fills, ReportsAgain, fills-more, fills-nothing, fills-whole, holds-mid, none-first, ok-same, window-more, window-nothing}
 
@@ -130,6 +131,33 @@ module _ (known now next : Option DiskHistory) (from mid new : NextGate) (given 
       go (error.Damaged at kind) never again = λ text before after. fills-whole text from.catalogue before after from mid mid given is.read.catalogue at kind known (so-far text before after) again
       go error.DiskFault never again = tt
       go error.NoMemory never again = tt
+
+-- ---- the bodies that were given
+
+bodies-push : (given : List Batch) (batch : Batch) → bodies_len (given ++ batch ∷ []) ≡ bodies_len given + length (body_bytes batch.txns)
+bodies-push [] batch = omega arith
+bodies-push (b ∷ given) batch = omega (arith, bodies-push given batch)
+
+pub bodies-nothing : (missing : ℕ) (end : Option FeedEnd) → AreBodiesCounted missing missing [] end end
+bodies-nothing missing end = record { counted = omega arith; ends = λ none. subst (FillsAs missing 0) (sym none) tt }
+
+module _ (missing mid : ℕ) (given : List Batch) (first : Option FeedEnd) (is : AreBodiesCounted missing mid given first None) where
+  -- one body more
+  pub bodies-more : (batch : Batch) (left : ℕ) → left ≡ mid - length (body_bytes batch.txns) → AreBodiesCounted missing left (given ++ batch ∷ []) first None
+  bodies-more batch left less = record { counted = omega (arith, is.counted, less, bodies-push given batch); ends = λ none. tt }
+
+  -- none is missing
+  pub bodies-full : mid ≡ 0 → AreBodiesCounted missing mid given first (Some Window)
+  bodies-full none = record { counted = is.counted; ends = λ begins. omega (arith, is.counted, none) }
+
+  -- some are missing, and it ends for another cause
+  pub bodies-end : 1 ≤ mid → (end : FeedEnd) → (end ≡ Window → ⊥) → AreBodiesCounted missing mid given first (Some end)
+  bodies-end some end other = record { counted = is.counted; ends = λ begins. so end other }
+    where
+      so : (end : FeedEnd) → (end ≡ Window → ⊥) → FillsAs missing (bodies_len given) (Some end)
+      so Window other = absurd (other refl)
+      so End other = omega (arith, is.counted, some)
+      so (Refused cause) other = omega (arith, is.counted, some)
 
 -- ---- whether it ended, and by what
 

@@ -15,3 +15,4 @@ pub mod ScanLemmas
 pub mod WindowLemmas
 pub mod RereadLemmas
 pub mod FedLemmas
+pub mod WindowEnds

@@ -24,9 +24,10 @@ use Rattle.pac_check.specs.Checkpoints.{head_with}
 use Rattle.pac_check.specs.SlotStates.{saved_txns}
 use Rattle.pac_recover.specs.declared.gates.GatePlace.{GatePlace}
 use Rattle.pac_recover.specs.Damages.{IsDamagedLog}
+use Rattle.pac_recover.specs.FedLogs.{IsPartOf, OfKnownLog}
 use Rattle.pac_recover.specs.Gates.{gate_after_batches, gates_from, place_of, txns_in, txns_by_batch}
 use Rattle.pac_recover.specs.Replays.{HasSkipped, IsNone}
-use Rattle.pac_recover.specs.Rereading.{HoldsFrom, HoldsWindow, IsSought}
+use Rattle.pac_recover.specs.Rereading.{HoldsFrom, IsSought}
 use Rattle.pac_recover.specs.Scanning.{IsAtGateOf}
 use Rattle.pac_recover.proofs.GateLemmas.{gate-among}
 use Rattle.pac_recover.proofs.WindowLemmas.{first-is, ok-same}
@@ -126,14 +127,12 @@ executes-nothing text catalogue before after old base (Some h) = λ holds after_
   gives = refl;
 }
 
-module _ (text : List ℕ) (catalogue : CatalogueState) (before after : List (List Txn)) (old mid new : NextGate) (base tables : Tables) (window : List Batch) (same : mid.catalogue ≡ catalogue) where
-  -- what the window's reading says, of what is left
-  abbrev pub ReadsWindow : Option DiskHistory → Type 0
-  ReadsWindow known = (t : List ℕ) (b a : List (List Txn)) → IfKnown (λ h. HoldsLog t mid.catalogue (b ++ a) h.now.seen → IsAfter t b mid → HoldsWindow t b a window new) known
-
-  window-in : (h : DiskHistory) → HoldsLog text catalogue (before ++ after) h.now.seen → (e : IsExecuting text catalogue.procs before after old mid base tables) → ReadsWindow (Some h) → HoldsWindow text (before ++ e.passed) e.rest window new
-  window-in h holds e reads =
-      reads text (before ++ e.passed) e.rest
+module _ (text : List ℕ) (catalogue : CatalogueState) (before after : List (List Txn)) (old mid : NextGate) (base tables : Tables) (same : mid.catalogue ≡ catalogue) where
+  -- what is known of each log that stands there is known of what is left
+  in-rest : {What : List ℕ → List (List Txn) → List (List Txn) → Type 0} (h : DiskHistory) → HoldsLog text catalogue (before ++ after) h.now.seen → (e : IsExecuting text catalogue.procs before after old mid base tables) → OfKnownLog (Some h) mid What
+      → What text (before ++ e.passed) e.rest
+  in-rest h holds e of_log =
+      of_log text (before ++ e.passed) e.rest
       (subst (λ (l : List (List Txn)). HoldsLog text mid.catalogue l h.now.seen) (ap (λ (l : List (List Txn)). before ++ l) e.split ∙ sym (append_assoc before e.passed e.rest))
       (subst (λ (c : CatalogueState). HoldsLog text c (before ++ after) h.now.seen) (sym same) holds))
       e.there
@@ -154,56 +153,52 @@ module _ (text : List ℕ) (catalogue : CatalogueState) (before after : List (Li
       ∙ ap (λ (r : Result Tables Note). r >>= λ t. serial catalogue.procs (old.txns + 1 + length (all_txns e.passed)) (all_txns more) t) e.gives
       ∙ ap (λ (n : ℕ). serial catalogue.procs n (all_txns more) tables) number
 
-  pub executes-more : (next : Tables) (known : Option DiskHistory) → serial catalogue.procs (mid.txns + 1) (txns_in window) tables ≡ Ok next
-      → IfKnown (Executes text catalogue before after old mid base tables) known → ReadsWindow known → IfKnown (Executes text catalogue before after old new base next) known
-  executes-more next None does so_far reads = tt
-  executes-more next (Some h) does so_far reads = λ holds after_old.
-      let e = so_far holds after_old in
-      let w = window-in h holds e reads in
-      record {
-        passed = e.passed ++ txns_by_batch window;
-        rest = w.rest;
-        split = e.split ∙ ap (λ (l : List (List Txn)). e.passed ++ l) w.split ∙ sym (append_assoc e.passed (txns_by_batch window) w.rest);
-        there = subst (λ (l : List (List Txn)). IsAfter text l new) (append_assoc before e.passed (txns_by_batch window)) w.there;
-        gives = goes-on after_old e (txns_by_batch window) ∙ does;
-      }
+  module _ (window : List Batch) (new : NextGate) where
+    -- the window's batches come next
+    pub executes-more : (next : Tables) (known : Option DiskHistory) → serial catalogue.procs (mid.txns + 1) (txns_in window) tables ≡ Ok next
+        → IfKnown (Executes text catalogue before after old mid base tables) known → OfKnownLog known mid (λ t b a. (rest : List (List Txn)) × IsPartOf t b a rest window new) → IfKnown (Executes text catalogue before after old new base next) known
+    executes-more next None does so_far reads = tt
+    executes-more next (Some h) does so_far reads = λ holds after_old.
+        let e = so_far holds after_old in
+        let w = in-rest h holds e reads in
+        record {
+          passed = e.passed ++ txns_by_batch window;
+          rest = w.0;
+          split = e.split ∙ ap (λ (l : List (List Txn)). e.passed ++ l) w.1.split ∙ sym (append_assoc e.passed (txns_by_batch window) w.0);
+          there = subst (λ (l : List (List Txn)). IsAfter text l new) (append_assoc before e.passed (txns_by_batch window)) w.1.there;
+          gives = goes-on after_old e (txns_by_batch window) ∙ does;
+        }
 
-  -- nothing is left
-  pub executes-all : (known : Option DiskHistory) → window ≡ [] → IfKnown (Executes text catalogue before after old mid base tables) known → ReadsWindow known
-      → IfKnown (λ h. HoldsLog text catalogue (before ++ after) h.now.seen → IsAfter text before old → Ok tables ≡ serial catalogue.procs (old.txns + 1) (all_txns after) base) known
-  executes-all None none so_far reads = tt
-  executes-all (Some h) none so_far reads = λ holds after_old.
-      let e = so_far holds after_old in
-      let w = window-in h holds e reads in
-      let rest : e.rest ≡ [] = w.split ∙ ap (λ (l : List Batch). txns_by_batch l ++ w.rest) none ∙ w.end none in
-      let all : after ≡ e.passed = e.split ∙ ap (λ (l : List (List Txn)). e.passed ++ l) rest ∙ append-nil e.passed in
-      sym e.gives ∙ ap (λ (l : List (List Txn)). serial catalogue.procs (old.txns + 1) (all_txns l) base) (sym all)
+    -- and nothing is left then
+    pub executes-all : (outcome : Result Tables Note) (known : Option DiskHistory) → outcome ≡ serial catalogue.procs (mid.txns + 1) (txns_in window) tables
+        → IfKnown (Executes text catalogue before after old mid base tables) known → OfKnownLog known mid (λ t b a. IsPartOf t b a [] window new)
+        → IfKnown (λ h. HoldsLog text catalogue (before ++ after) h.now.seen → IsAfter text before old → outcome ≡ serial catalogue.procs (old.txns + 1) (all_txns after) base) known
+    executes-all outcome None does so_far reads = tt
+    executes-all outcome (Some h) does so_far reads = λ holds after_old.
+        let e = so_far holds after_old in
+        let w = in-rest h holds e reads in
+        let all : after ≡ e.passed ++ txns_by_batch window = e.split ∙ ap (λ (l : List (List Txn)). e.passed ++ l) (w.split ∙ append-nil (txns_by_batch window)) in
+        does ∙ sym (ap (λ (l : List (List Txn)). serial catalogue.procs (old.txns + 1) (all_txns l) base) all ∙ goes-on after_old e (txns_by_batch window))
 
-  -- a transaction of the window aborts, and so does the whole
-  pub executes-abort : (note : Note) (known : Option DiskHistory) → serial catalogue.procs (mid.txns + 1) (txns_in window) tables ≡ Err note
-      → IfKnown (Executes text catalogue before after old mid base tables) known → ReadsWindow known
-      → IfKnown (λ h. HoldsLog text catalogue (before ++ after) h.now.seen → IsAfter text before old → Err note ≡ serial catalogue.procs (old.txns + 1) (all_txns after) base) known
-  executes-abort note None aborts so_far reads = tt
-  executes-abort note (Some h) aborts so_far reads = λ holds after_old.
-      let e = so_far holds after_old in
-      let w = window-in h holds e reads in
-      sym (ap (λ (l : List (List Txn)). serial catalogue.procs (old.txns + 1) (all_txns l) base) (e.split ∙ ap (λ (l : List (List Txn)). e.passed ++ l) w.split)
-      ∙ goes-on after_old e (txns_by_batch window ++ w.rest)
-      ∙ ap (λ (l : List Txn). serial catalogue.procs (mid.txns + 1) l tables) (all_txns-append (txns_by_batch window) w.rest)
-      ∙ serial-parts catalogue.procs (mid.txns + 1) (txns_in window) (all_txns w.rest) tables
-      ∙ ap (λ (r : Result Tables Note). r >>= λ t. serial catalogue.procs (mid.txns + 1 + length (txns_in window)) (all_txns w.rest) t) aborts)
+    -- a transaction of the window aborts, and so does the whole
+    pub executes-abort : (note : Note) (known : Option DiskHistory) → serial catalogue.procs (mid.txns + 1) (txns_in window) tables ≡ Err note
+        → IfKnown (Executes text catalogue before after old mid base tables) known → OfKnownLog known mid (λ t b a. (rest : List (List Txn)) × IsPartOf t b a rest window new)
+        → IfKnown (λ h. HoldsLog text catalogue (before ++ after) h.now.seen → IsAfter text before old → Err note ≡ serial catalogue.procs (old.txns + 1) (all_txns after) base) known
+    executes-abort note None aborts so_far reads = tt
+    executes-abort note (Some h) aborts so_far reads = λ holds after_old.
+        let e = so_far holds after_old in
+        let w = in-rest h holds e reads in
+        sym (ap (λ (l : List (List Txn)). serial catalogue.procs (old.txns + 1) (all_txns l) base) (e.split ∙ ap (λ (l : List (List Txn)). e.passed ++ l) w.1.split)
+        ∙ goes-on after_old e (txns_by_batch window ++ w.0)
+        ∙ ap (λ (l : List Txn). serial catalogue.procs (mid.txns + 1) l tables) (all_txns-append (txns_by_batch window) w.0)
+        ∙ serial-parts catalogue.procs (mid.txns + 1) (txns_in window) (all_txns w.0) tables
+        ∙ ap (λ (r : Result Tables Note). r >>= λ t. serial catalogue.procs (mid.txns + 1 + length (txns_in window)) (all_txns w.0) t) aborts)
 
   -- no damage is found
-  pub executes-whole : (known : Option DiskHistory) → IfKnown (Executes text catalogue before after old mid base tables) known
-      → ((t : List ℕ) (b a : List (List Txn)) → IfKnown (λ h. HoldsLog t mid.catalogue (b ++ a) h.now.seen → IsAfter t b mid → ⊥) known)
+  pub executes-whole : (known : Option DiskHistory) → IfKnown (Executes text catalogue before after old mid base tables) known → OfKnownLog known mid (λ t b a. ⊥)
       → IfKnown (λ h. HoldsLog text catalogue (before ++ after) h.now.seen → IsAfter text before old → ⊥) known
   executes-whole None so_far damaged = tt
-  executes-whole (Some h) so_far damaged = λ holds after_old.
-      let e = so_far holds after_old in
-      damaged text (before ++ e.passed) e.rest
-      (subst (λ (l : List (List Txn)). HoldsLog text mid.catalogue l h.now.seen) (ap (λ (l : List (List Txn)). before ++ l) e.split ∙ sym (append_assoc before e.passed e.rest))
-      (subst (λ (c : CatalogueState). HoldsLog text c (before ++ after) h.now.seen) (sym same) holds))
-      e.there
+  executes-whole (Some h) so_far damaged = λ holds after_old. let e = so_far holds after_old in in-rest h holds e damaged
 
 -- ---- from the gate of the newest slot on
 

@@ -17,10 +17,9 @@ use Rattle.pac_log.specs.Gates.{gate_after}
 use Rattle.pac_log.specs.Logs.{HoldsLog}
 use Rattle.pac_log.specs.Places.{IsAfter}
 use Rattle.pac_log.specs.Reading.{IsNextBatch, ReportsHeld, first_batch}
-use Rattle.pac_log.proofs.GateLemmas.{held}
 use Rattle.pac_log.proofs.LogLemmas.{after_more}
 use Rattle.pac_recover.specs.Gates.{txns_in, txns_by_batch}
-use Rattle.pac_recover.specs.Rereading.{HoldsWindow, IsWindow}
+use Rattle.pac_recover.specs.Rereading.{IsWindow}
 use Rattle.pac_recover.proofs.GateLemmas.{run-push}
 use Rattle.pac_recover.proofs.BatchLemmas.{fit-push, txns-push}
 
@@ -107,32 +106,6 @@ module _ (text : List ℕ) (catalogue : CatalogueState) (before after : List (Li
             (subst (λ (l : List (List Txn)). IsAfter text l (gate_after (length batch.txns) (1 + length (body_bytes batch.txns)) mid))
             (append_assoc before (txns_by_batch window) (batch.txns ∷ []) ∙ ap (λ (l : List (List Txn)). before ++ l) (sym (by-push window batch))) there);
       })
-
-  -- the window is full: it has a batch
-  pub fills-full : (batch : Batch) (held : List Batch) (known : Option DiskHistory) → window ≡ held ++ batch ∷ [] → IfKnown (Fills text catalogue before after old mid window) known
-      → IfKnown (λ h. HoldsLog text catalogue (before ++ after) h.now.seen → IsAfter text before old → HoldsWindow text before after window mid) known
-  fills-full batch held None pushes so_far = tt
-  fills-full batch held (Some h) pushes so_far = λ holds after_old.
-      let f = so_far holds after_old in
-      record { rest = f.rest; split = f.split; there = f.there; end = λ none. absurd (not-nil held batch (sym pushes ∙ none)) }
-    where
-      not-nil : (l : List Batch) (b : Batch) → l ++ b ∷ [] ≡ [] → ⊥
-      not-nil [] b e = cc
-      not-nil (x ∷ l) b e = cc
-
-  -- the log ends: nothing is left
-  pub fills-all : (known : Option DiskHistory) → new ≡ mid → IfKnown (Fills text catalogue before after old mid window) known → ReportsAgain mid (Ok None) known
-      → IfKnown (λ h. HoldsLog text catalogue (before ++ after) h.now.seen → IsAfter text before old → HoldsWindow text before after window new) known
-  fills-all None end so_far knows = tt
-  fills-all (Some h) end so_far knows = λ holds after_old.
-      let f = so_far holds after_old in
-      let says = knows text (before ++ txns_by_batch window) f.rest (holds-mid h holds f) f.there in
-      record {
-        rest = f.rest;
-        split = f.split;
-        there = subst (λ (g : NextGate). IsAfter text (before ++ txns_by_batch window) g) (sym end) f.there;
-        end = λ _. none-first f.rest (ok-same (first_batch f.rest) None says);
-      }
 
   -- no damage is found in it
   pub fills-whole : (at : ℕ) (kind : DamageKind) (known : Option DiskHistory) → IfKnown (Fills text catalogue before after old mid window) known → ReportsAgain mid (Err (error.Damaged at kind)) known

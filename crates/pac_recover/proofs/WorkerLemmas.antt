@@ -28,11 +28,9 @@ use Rattle.pac_flat.specs.FlatForm.{program_of}
 use Rattle.pac_plan.specs.declared.parts.PlanParts.{PlanParts}
 use Rattle.pac_commute.specs.PartialFits.{TxnIsOfPlan, TxnsFitPlan}
 use Rattle.pac_commute.specs.PlanLaws.{NumbersRunOn, txns_of}
-use Rattle.pac_recover.specs.declared.execution.Execution.{Execution}
-use Rattle.pac_recover.specs.declared.execution.Execution.TheVariants as execution
 use Rattle.pac_recover.specs.Gates.{txns_in, RunOn}
 use Rattle.pac_recover.specs.Logs.{FitBatches}
-use Rattle.pac_recover.specs.Outcomes.{outcome_of}
+use Rattle.pac_recover.specs.Outcomes.{FitsReplayed, executed_to, outcome_of}
 
 -- the transactions of batches, and numbers that run on, as the plan's laws say it
 pub same-txns : (batches : List Batch) → txns_in batches ≡ txns_of batches
@@ -78,6 +76,10 @@ module _ (cat : CatalogueState) (parts : PlanParts) (programs : parts.programs �
     rows = subst (λ (l : List TableTypes). RowsFit l held.rows) shapes rows;
   }
 
+  pub fits-executed : (T : Type 0) (held : Held) (note : Option Note) → held.tables ≡ length parts.tables → RowsFit parts.tables held.rows → FitsReplayed cat (executed_to {T = T} held note)
+  fits-executed T held None count rows = fits-again held count rows
+  fits-executed T held (Some note) count rows = tt
+
   -- and those of the catalogue the plan
   pub fits-plan : (held : Held) → FitsCatalogue cat held.tables held.rows → (held.tables ≡ length parts.tables) × RowsFit parts.tables held.rows
   fits-plan held fits = (
@@ -106,14 +108,7 @@ module _ (procs : List Proc) (programs : List Program) (replays : ReplaysTheSame
   agrees : AllAgree (serial procs (before + 1) (txns_in batches) old) all
   agrees = subst (λ (l : List Txn). AllAgree (serial procs (before + 1) l old) all) (sym (same-txns batches)) (replays.executed (before + 1) (txns_of batches) old)
 
-  -- no note: the tables are those with which serial execution ends
-  pub gives-tables : {T : Type 0} (held : Held) (left : Option Note) → held.rows ≡ all.tables → left ≡ first_note all.notes → left ≡ None → (result : Execution T) → result ≡ execution.Tables held
-      → outcome_of result ≡ serial procs (before + 1) (txns_in batches) old
-  gives-tables {T} held left rows is none result made =
-      ap (λ (e : Execution T). outcome_of e) made ∙ ap (λ (t : Tables). Ok t) rows ∙ sym (ends-with (serial procs (before + 1) (txns_in batches) old) all agrees (sym is ∙ none))
-
-  -- a note: it is the abort that stops it
-  pub gives-abort : {T : Type 0} (left : Option Note) → left ≡ first_note all.notes → (first : Note) → left ≡ Some first → (result : Execution T) → result ≡ execution.Aborted first
-      → outcome_of result ≡ serial procs (before + 1) (txns_in batches) old
-  gives-abort {T} left is first some result made =
-      ap (λ (e : Execution T). outcome_of e) made ∙ sym (stops-with (serial procs (before + 1) (txns_in batches) old) all first agrees (sym is ∙ some))
+  -- what workers left is what serial execution gives
+  pub gives : (T : Type 0) (held : Held) (left : Option Note) → held.rows ≡ all.tables → left ≡ first_note all.notes → outcome_of (executed_to {T = T} held left) ≡ serial procs (before + 1) (txns_in batches) old
+  gives T held None rows is = ap (λ (t : Tables). Ok t) rows ∙ sym (ends-with (serial procs (before + 1) (txns_in batches) old) all agrees (sym is))
+  gives T held (Some note) rows is = sym (stops-with (serial procs (before + 1) (txns_in batches) old) all note agrees (sym is))

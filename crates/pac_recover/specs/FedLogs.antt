@@ -1,11 +1,13 @@
 -- What a feed of a log gives between two of its states.
-use Rattle.std.specs.Prelude.{◌≡◌, ℕ, List, [], ◌++◌, Option, Some, None}
+use Rattle.std.specs.Prelude.{◌≡◌, ◌≤◌, ◌<◌, ◌+◌, ◌-◌, ℕ, Bool, true, false, List, [], ◌∷◌, ◌++◌, length, Option, Some, None}
 use Rattle.pac_ops.specs.declared.batch.Batch.{Batch}
 use Rattle.pac_ops.specs.declared.transaction.Txn.{Txn}
 use Rattle.pac_outside.specs.Causes.{one_more}
 use Rattle.pac_outside.specs.Disk.{DiskHistory, IfKnown}
+use Rattle.pac_log.specs.declared.errors.LogError.{LogError}
 use Rattle.pac_log.specs.declared.errors.LogError.TheVariants as error
 use Rattle.pac_log.specs.declared.position.NextGate.{NextGate}
+use Rattle.pac_log.specs.Bodies.{body_bytes}
 use Rattle.pac_log.specs.Logs.{HoldsLog}
 use Rattle.pac_log.specs.Places.{IsAfter}
 use Rattle.pac_recover.specs.declared.log_feed.FeedEnd.{FeedEnd}
@@ -41,6 +43,38 @@ AreCounted before now (Some (Refused error.NoStore)) = now ≡ before
 AreCounted before now (Some (Refused (error.Damaged at kind))) = now ≡ before
 AreCounted before now (Some (Refused error.DiskFault)) = now ≡ one_more before
 AreCounted before now (Some (Refused error.NoMemory)) = now ≡ before
+
+-- how many bytes the bodies of these batches have
+abbrev pub bodies_len : List Batch → ℕ
+bodies_len [] = 0
+bodies_len (batch ∷ batches) = length (body_bytes batch.txns) + bodies_len batches
+
+-- how an end goes with the bytes that were given of a window
+abbrev pub FillsAs : ℕ → ℕ → Option FeedEnd → Type 0
+FillsAs window given None = Unit {0}
+FillsAs window given (Some Window) = window ≤ given
+FillsAs window given (Some End) = given < window
+FillsAs window given (Some (Refused cause)) = given < window
+
+-- So many bytes are missing now until the window is full. If more could be given at first, it ended with the window exactly where the bodies that
+-- were given are as long as it.
+pub record AreBodiesCounted (missing now : ℕ) (given : List Batch) (first end : Option FeedEnd) : Type 0 where
+  pub counted : now ≡ missing - bodies_len given
+  pub ends : first ≡ None → FillsAs missing (bodies_len given) end
+
+-- whether the log ends there
+abbrev pub is_end : Option FeedEnd → Bool
+is_end None = false
+is_end (Some Window) = false
+is_end (Some End) = true
+is_end (Some (Refused cause)) = false
+
+-- why a batch couldn't be read, where that ended it
+abbrev pub refusal_of : Option FeedEnd → Option LogError
+refusal_of None = None
+refusal_of (Some Window) = None
+refusal_of (Some End) = None
+refusal_of (Some (Refused cause)) = Some cause
 
 -- Between these gates these batches were given, and what is known of the disk is as before. If more could be given at first, this is how
 -- it ended, where it did.

@@ -9,6 +9,7 @@ pub mod Passing
 pub mod Scanning
 pub mod Rereading
 pub mod FedLogs
+pub mod Windows
 pub mod Recovering
 pub mod Outcomes
 pub mod Replays

@@ -1,7 +1,8 @@
 -- What the execution of stored transactions gives.
-use Rattle.std.specs.Prelude.{ℕ, List, Result, Ok, Err}
+use Rattle.std.specs.Prelude.{ℕ, List, Option, Some, None, Result, Ok, Err}
 use Rattle.pac_value.specs.Expressions.{◌>>=◌}
 use Rattle.pac_value.specs.State.{Tables}
+use Rattle.pac_tables.specs.Joined.{Held}
 use Rattle.pac_ops.specs.declared.note.Note.{Note}
 use Rattle.pac_ops.specs.declared.transaction.Txn.{Txn}
 use Rattle.pac_types.specs.declared.procedure.Proc.{Proc}
@@ -15,6 +16,11 @@ use Rattle.pac_recover.specs.declared.execution.Execution.TheVariants as replaye
 abbrev pub outcome_of : {T : Type 0} → Execution T → Result Tables Note
 outcome_of (replayed.Tables held) = Ok held.rows
 outcome_of (replayed.Aborted note) = Err note
+
+-- what is executed: the tables, or the first transaction that aborts
+abbrev pub executed_to : {T : Type 0} → Held → Option Note → Execution T
+executed_to held None = replayed.Tables held
+executed_to held (Some note) = replayed.Aborted note
 
 -- the same once these transactions are executed too, unless one before them aborts
 abbrev pub then_serial : List Proc → ℕ → List Txn → Result Tables Note → Result Tables Note

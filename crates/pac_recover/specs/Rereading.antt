@@ -8,7 +8,7 @@ use Rattle.pac_log.specs.Places.{IsAfter}
 use Rattle.pac_log.specs.Reading.{StandsAfter}
 use Rattle.pac_check.specs.declared.info.SlotInfo.{SlotInfo}
 use Rattle.pac_check.specs.SlotStates.{saved_txns}
-use Rattle.pac_recover.specs.Gates.{txns_by_batch, txns_in, RunOn}
+use Rattle.pac_recover.specs.Gates.{txns_in, RunOn}
 use Rattle.pac_recover.specs.Logs.{FitBatches}
 
 -- the image is that of a log with these batches, and the gate is its first
@@ -31,10 +31,3 @@ pub record IsWindow (old new : NextGate) (batches : List Batch) : Type 0 where
   pub fit : FitBatches old.catalogue batches
   pub counted : new.txns ≡ old.txns + length (txns_in batches)
   pub grows : old.txns + length batches ≤ new.txns
-
--- After these batches of a log come the window's, up to the gate, and then others. The window is empty only where none come.
-pub record HoldsWindow (text : List ℕ) (before after : List (List Txn)) (window : List Batch) (gate : NextGate) : Type 0 where
-  pub rest : List (List Txn)
-  pub split : after ≡ txns_by_batch window ++ rest
-  pub there : IsAfter text (before ++ txns_by_batch window) gate
-  pub end : window ≡ [] → rest ≡ []

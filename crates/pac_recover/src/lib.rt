@@ -2,13 +2,15 @@
 //! or what is wrong. The devices are only read.
 //!
 //! - [`recover`]: the tables after all stored transactions, [`Recovered`]; or the first transaction that aborts, or the first
-//!   table over a limit of rows, or damage: a [`RecoverError`]. It scans the store, reads the log again window by window, and
-//!   workers execute each window over hashed tables.
+//!   table over a limit of rows, or damage: a [`RecoverError`]. It scans the store, and reads the log again window by window,
+//!   while workers execute each window over hashed tables.
 //! - [`scan`]: what is stored but for the transactions, [`Scanned`]: the catalogue with its plan, the tables of the newest slot,
 //!   the log's reader at its first gate and the slots. Or the first [`Damage`], a [`LoadError`].
 //! - [`load`]: the same with the batches of the log after the newest slot, [`Loaded`], and the log's reader at its end.
 //! - [`restore`]: the tables after all stored transactions over any kind of tables, with the log's reader and the slots,
 //!   [`Restored`]. It reads the log once, and an [`Executor`] that the caller gives executes what is read.
+//! - [`LogFeed`]: a feed of the batches of a log, for the workers of `pac_workers`, until a window of it is full. [`FeedEnd`]
+//!   says why no more come.
 //! - [`execute_by`]: what transactions give over tables, executed by workers, an [`Execution`]. [`test_rows`]: the first table
 //!   over a limit, [`TooManyRows`].
 //!
@@ -43,6 +45,7 @@ mod scanning;
 mod skipping;
 mod slots;
 mod store;
+mod windows;
 mod workers;
 
 pub use errors::{Damage, LoadError, RecoverError};

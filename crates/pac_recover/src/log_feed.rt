@@ -1,12 +1,13 @@
 // A feed of the batches of a log.
-ghost use Rattle.std.specs.Prelude.{◌≡◌, ◌≤◌, ◌<◌, ◌+◌, ◌-◌, ◌^◌, ◌++◌, ◌∷◌, [], List, Option as AOption, Some as ASome, None as ANone, All, IfErr, IfOk, OnOk, length, map, is_some, true};
+ghost use Rattle.std.specs.Prelude.{◌≡◌, ◌≢◌, ◌≤◌, ◌<◌, ◌+◌, ◌-◌, ◌^◌, ◌++◌, ◌∷◌, [], List, Option as AOption, Some as ASome, None as ANone, All, IfErr, IfOk, OnOk, length, map, is_some, true};
 ghost use Rattle.pac_ops.specs.declared.batch.Batch.{Batch as ABatch};
 ghost use Rattle.pac_outside.specs.Disk.{DiskHistory};
 ghost use Rattle.pac_types.specs.Fits.{TxnFits, shape};
 ghost use Rattle.pac_flat.specs.FlatForm.{program_of};
 ghost use Rattle.pac_log.specs.declared.position.NextGate.{NextGate as ANextGate};
+ghost use Rattle.pac_log.specs.Bodies.{body_bytes};
 ghost use Rattle.pac_recover.specs.declared.log_feed.FeedEnd.{FeedEnd as AFeedEnd};
-ghost use Rattle.pac_recover.specs.FedLogs.{AreCounted, IsGivenOfLog};
+ghost use Rattle.pac_recover.specs.FedLogs.{AreBodiesCounted, AreCounted, IsGivenOfLog, is_end, refusal_of};
 
 use pac_log::{LogError, LogReader};
 use pac_ops::Batch;
@@ -26,28 +27,27 @@ pub enum FeedEnd {
 
 /// Gives the batches of a log from the reader's gate on, until their bodies are as long as a window. The reader stands behind them.
 #[derive(Drop)]
-pub struct LogFeed<'a, D: Disk> {
-    reader: &'a mut LogReader,
-    disk: &'a mut D,
-    window: u64,
-    /// How many bytes the bodies have that it gave.
-    given: u64,
+pub struct LogFeed<'r, 'd, D: Disk> {
+    reader: &'r mut LogReader,
+    disk: &'d mut D,
+    /// How many bytes the bodies have that are missing until its window is full.
+    missing: u64,
     end: Option<FeedEnd>,
 }
 
-impl<'a, D: Disk> LogFeed<'a, D> {
+impl<'r, 'd, D: Disk> LogFeed<'r, 'd, D> {
     /// Nothing is given. It takes no memory.
-    pub fn new(reader: &'a mut LogReader, disk: &'a mut D, window: u64) -> LogFeed<'a, D>
+    pub fn new(reader: &'r mut LogReader, disk: &'d mut D, window: u64) -> LogFeed<'r, 'd, D>
         requires { 1 ≤ window }
         ensures reader { result.reader ≡ reader.entry }
         ensures disk { result.disk ≡ disk.entry }
+        ensures missing { result.missing ≡ window }
         ensures end { result.end ≡ ANone }
     {
         LogFeed {
             reader,
             disk,
-            window,
-            given: 0,
+            missing: window,
             end: None,
         }
     }
@@ -60,10 +60,28 @@ impl<'a, D: Disk> LogFeed<'a, D> {
         let Some(end) = self.end else { unreachable!() };
         end
     }
+
+    /// Whether it ended because the log ends.
+    pub(crate) fn is_at_end(&self) -> bool
+        ensures { result ≡ is_end self.now.end }
+    {
+        matches!(self.end, Some(FeedEnd::End))
+    }
+
+    /// Why a batch couldn't be read, where that ended it.
+    pub(crate) fn refusal(&self) -> Option<LogError>
+        ensures { result ≡ refusal_of self.now.end }
+    {
+        match self.end {
+            Some(FeedEnd::Refused(cause)) => Some(cause),
+            _ => None,
+        }
+    }
 }
 
-impl<'a, D: Disk> Feed for LogFeed<'a, D> {
+impl<'r, 'd, D: Disk> Feed for LogFeed<'r, 'd, D> {
     ghost gives = { λ old given new. (new.reader.ghost_name ≡ old.reader.ghost_name) × (new.disk.ghost_name ≡ old.disk.ghost_name)
+        × AreBodiesCounted old.missing new.missing given old.end new.end
         × (old.end ≡ ANone → AreCounted (D.faults old.disk.now) (D.faults new.disk.now) new.end)
         × IsGivenOfLog (D.known old.disk.now) (D.known new.disk.now) old.reader.now.gate new.reader.now.gate given old.end new.end };
 
@@ -81,7 +99,7 @@ impl<'a, D: Disk> Feed for LogFeed<'a, D> {
         if self.end.is_some() {
             return None;
         }
-        if self.given >= self.window {
+        if self.missing == 0 {
             self.end = Some(FeedEnd::Window);
             return None;
         }
@@ -89,7 +107,7 @@ impl<'a, D: Disk> Feed for LogFeed<'a, D> {
         match read(self.reader, self.disk) {
             Ok(batch) => {
                 let len = self.reader.gate().place().saturating_sub(before);
-                self.given = self.given.saturating_add(len.saturating_sub(1)); // but for the gate
+                self.missing = self.missing.saturating_sub(len.saturating_sub(1)); // but for the gate
                 Some(batch)
             }
             Err(end) => {
@@ -108,12 +126,14 @@ fn read<D: Disk>(reader: &mut LogReader, disk: &mut D) -> Result<Batch, FeedEnd>
         → IsGivenOfLog known (D.known disk.new) from reader.new.gate (batches ++ batch ∷ []) end ANone) }
     ensures ends { IfErr result (λ cause. (known : AOption DiskHistory) (from : ANextGate) (batches : List ABatch) (end : AOption AFeedEnd) → IsGivenOfLog known (D.known disk.old) from reader.old.gate batches end ANone
         → IsGivenOfLog known (D.known disk.new) from reader.new.gate batches end (ASome cause)) }
+    ensures other { IfErr result (λ cause. cause ≢ FeedEnd.Window) }
     ensures kept { OnOk result (D.faults disk.new ≡ D.faults disk.old) }
     ensures counted { IfErr result (λ cause. AreCounted (D.faults disk.old) (D.faults disk.new) (ASome cause)) }
     ensures catalogue { reader.new.gate.catalogue ≡ reader.old.gate.catalogue }
     ensures first { IfOk result (λ batch. batch.first ≡ reader.old.gate.txns + 1) }
     ensures next { IfOk result (λ batch. reader.new.gate.txns + 1 ≡ batch.first + length batch.txns) }
     ensures some { IfOk result (λ batch. 1 ≤ length batch.txns) }
+    ensures place { IfOk result (λ batch. reader.new.gate.place ≡ reader.old.gate.place + (1 + length (body_bytes batch.txns))) }
     ensures few { IfOk result (λ batch. reader.new.gate.txns ≤ 2 ^ 63) }
     ensures fits { IfOk result (λ batch. All (TxnFits reader.old.gate.catalogue) batch.txns) }
 {

@@ -38,8 +38,8 @@ pub struct Recovered {
 /// slot over that one's tables, by so many workers, and then tests the limit of rows. Each worker passes the gate before each
 /// piece that it runs.
 ///
-/// The log is read twice. In the second reading the batches of 1,048,576 bytes are held in memory at a time, and what executes
-/// them.
+/// The log is read twice. In the second reading the batches of 4,194,304 bytes are held in memory at a time, and what executes
+/// them while they are read.
 ///
 /// # Errors
 ///

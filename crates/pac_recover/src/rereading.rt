@@ -5,7 +5,6 @@ ghost use Rattle.pac_outside.specs.Disk.{IfKnown};
 ghost use Rattle.pac_ops.specs.declared.transaction.Txn.{Txn as ATxn};
 ghost use Rattle.pac_types.specs.Execution.{serial};
 ghost use Rattle.pac_types.specs.Fits.{FitsCatalogue, shape};
-ghost use Rattle.pac_types.specs.OperationLimits.{HasFewOperations};
 ghost use Rattle.pac_flat.specs.Agreement.{ReplaysTheSame};
 ghost use Rattle.pac_flat.specs.FlatForm.{program_of};
 ghost use Rattle.pac_log.specs.declared.damage.DamageKind.{DamageKind as ALogDamage};
@@ -16,18 +15,15 @@ ghost use Rattle.pac_check.specs.declared.info.SlotName.{SlotName as ASlotName};
 ghost use Rattle.pac_check.specs.SlotStates.{saved_txns};
 ghost use Rattle.pac_recover.specs.declared.errors.Damage.TheVariants.{Log as InLog, Slot as InSlot};
 ghost use Rattle.pac_recover.specs.Outcomes.{FitsReplayed, outcome_of};
-ghost use Rattle.pac_recover.specs.Rereading.{HoldsFrom, HoldsWindow, IsSought, IsWindow};
+ghost use Rattle.pac_recover.specs.Rereading.{HoldsFrom, IsSought};
 ghost use Rattle.pac_recover.specs.Scanning.{IsAtGateOf};
 
-use crate::log::push;
 use crate::skipping::skip_to;
 use crate::slots::{misplaced, place_in};
-use crate::workers::execute_planned;
+use crate::windows::{ExecutedWindow, execute_window};
 use crate::{Execution, LoadError};
-use pac_base::{Exact, listed};
 use pac_check::SlotInfo;
-use pac_log::{LogError, LogReader};
-use pac_ops::Batch;
+use pac_log::LogReader;
 use pac_outside::{Disk, Gate};
 use pac_plan::Plan;
 use pac_tables::{JoinedRows, TableRows};
@@ -36,12 +32,8 @@ use std::alloc::Global;
 use std::sync::Wait;
 use std::thread::Threads;
 
-// How many bytes of the log are executed together, and at most one batch more.
-const WINDOW: u64 = 1_048_576;
-
 /// Executes the transactions of a log after the newest slot over its tables, by so many workers, from the reader's gate, which is
-/// the first. The batches of a window of 1,048,576 bytes are read, and then executed together; nothing is read behind a window
-/// in which a transaction aborts.
+/// the first. It goes window by window, and nothing is read behind a window in which a transaction aborts.
 ///
 /// # Errors
 ///
@@ -145,61 +137,17 @@ fn replay_windows<D: Disk, T: TableRows + Send, H: Threads + Wait + Sync, G: Gat
     ensures kept { ¬ IsErrOf result LoadError.DiskFault → D.faults disk.new ≡ D.faults disk.old }
 {
     for _ in 0..u64::MAX {
-        let before = reader.gate().txns();
-        let window = next_window(alloc, reader, disk)?;
-        if window.is_empty() {
-            return Ok(Execution::Tables(tables));
+        let ExecutedWindow { executed, is_last } = execute_window(
+            rt, alloc, workers, cat, plan, tables, reader, disk, gate,
+        )?;
+        if is_last {
+            return Ok(executed);
         }
-        let _few = reader.gate().txns();
-        let plan = plan.copy(alloc)?;
-        tables = match execute_planned(
-            rt,
-            alloc,
-            workers,
-            cat,
-            plan,
-            before,
-            listed(window),
-            tables,
-            gate,
-        )? {
+        tables = match executed {
             Execution::Tables(tables) => tables,
             Execution::Aborted(note) => return Ok(Execution::Aborted(note)),
         };
     }
     let _few = reader.gate().txns(); // at most 2^63, and each window has one
-    unreachable!()
-}
-
-// The batches of a window from the reader's gate on; none where the log ends there.
-fn next_window<D: Disk>(
-    alloc: Global,
-    reader: &mut LogReader,
-    disk: &mut D,
-) -> Result<Vec<Batch>, LogError>
-    ensures read { IfOk result (λ window. IsWindow reader.old.gate reader.new.gate window.items) }
-    ensures holds { IfOk result (λ window. (text : List ℕ) (before after : List (List ATxn)) → IfKnown (λ old. HoldsLog text reader.old.gate.catalogue (before ++ after) old.now.seen → IsAfter text before reader.old.gate
-        → HoldsWindow text before after window.items reader.new.gate) (D.known disk.old)) }
-    ensures damaged { (at : ℕ) (kind : ALogDamage) → IsErrOf result (LogError.Damaged at kind) → (text : List ℕ) (before after : List (List ATxn))
-        → IfKnown (λ old. HoldsLog text reader.old.gate.catalogue (before ++ after) old.now.seen → ¬ IsAfter text before reader.old.gate) (D.known disk.old) }
-    ensures known { ¬ IsErrOf result LogError.NoStore }
-    ensures same { D.known disk.new ≡ D.known disk.old }
-    ensures counted { IsErrOf result LogError.DiskFault → D.faults disk.new ≡ one_more (D.faults disk.old) }
-    ensures kept { ¬ IsErrOf result LogError.DiskFault → D.faults disk.new ≡ D.faults disk.old }
-{
-    let begin = reader.gate().place();
-    let mut window = Vec::new(alloc);
-    for _ in 0..u64::MAX {
-        match reader.next_batch(disk)? {
-            None => return Ok(window),
-            Some(batch) => {
-                push(&mut window, batch)?;
-                if reader.gate().place().saturating_sub(begin) >= WINDOW {
-                    return Ok(window);
-                }
-            }
-        }
-    }
-    let _few = reader.gate().txns(); // at most 2^63, and each batch has one
     unreachable!()
 }

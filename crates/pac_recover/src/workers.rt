@@ -7,7 +7,7 @@ ghost use Rattle.pac_flat.specs.Agreement.{ReplaysTheSame};
 ghost use Rattle.pac_flat.specs.FlatForm.{program_of};
 ghost use Rattle.pac_recover.specs.Gates.{RunOn, txns_in};
 ghost use Rattle.pac_recover.specs.Logs.{FitBatches};
-ghost use Rattle.pac_recover.specs.Outcomes.{FitsReplayed, outcome_of};
+ghost use Rattle.pac_recover.specs.Outcomes.{FitsReplayed, executed_to, outcome_of};
 
 use crate::Execution;
 use pac_base::NoMemory;
@@ -51,8 +51,8 @@ pub fn execute_by<T: TableRows + Send, H: Threads + Wait + Sync, G: Gate + Sync>
     execute_planned(rt, alloc, workers, cat, plan, before, batches, tables, gate)
 }
 
-/// The same by the plan of the catalogue.
-pub(crate) fn execute_planned<T: TableRows + Send, H: Threads + Wait + Sync, G: Gate + Sync>(
+// The same by the plan of the catalogue.
+fn execute_planned<T: TableRows + Send, H: Threads + Wait + Sync, G: Gate + Sync>(
     rt: &H,
     alloc: Global,
     workers: u32,
@@ -74,14 +74,22 @@ pub(crate) fn execute_planned<T: TableRows + Send, H: Threads + Wait + Sync, G: 
     ensures outcome { IfOk result (λ executed. outcome_of executed ≡ serial _cat.now.procs (before + 1) (txns_in batches) tables.rows) }
     ensures fits { IfOk result (λ executed. FitsReplayed _cat.now executed) }
 {
+    let executed = execute(rt, alloc, workers, plan, before + 1, tables, batches, gate)?;
+    Ok(execution_of(executed))
+}
+
+/// The tables that workers left, or the first transaction that aborted.
+pub(crate) fn execution_of<T: TableRows>(executed: Executed<JoinedRows<T>>) -> Execution<T>
+    ensures { result ≡ executed_to executed.tables executed.first_note }
+{
     let Executed {
         tables,
         first_note,
         tallies: _,
         drained: _,
-    } = execute(rt, alloc, workers, plan, before + 1, tables, batches, gate)?;
-    Ok(match first_note {
+    } = executed;
+    match first_note {
         None => Execution::Tables(tables),
         Some(note) => Execution::Aborted(note),
-    })
+    }
 }

@@ -3,6 +3,7 @@ use Rattle.std.proofs.Common.{All, Ok, Option, ap, subst}
 use Rattle.pac_ops.specs.declared.batch.Batch.{Batch}
 use Rattle.pac_types.specs.Fits.{TxnFits}
 use Rattle.pac_log.specs.declared.errors.LogError.TheVariants as error
+use Rattle.pac_log.specs.declared.position.NextGate.{NextGate}
 use Rattle.pac_log.specs.declared.reader.ReaderParts.{ReaderParts}
 use Rattle.pac_log.specs.Reading.{IsNextBatch}
 use Rattle.pac_recover.proofs.CauseLemmas.{as-error, at-some, same-error}
@@ -37,3 +38,10 @@ pub returns-in-Err-clause-counted : goal.returns-in-Err-clause-counted
 returns-in-Err-clause-counted g c =
     counted-so (g.D.Disk.faults c.args.disk.now) (g.D.Disk.faults c.next_batch.new.disk) c.in-Err.cause (λ fault. c.in-Err.ensures.counted (as-error _ _ fault))
     (λ other. c.in-Err.ensures.kept (λ fault. other (same-error c.in-Err.cause error.DiskFault fault)))
+
+pub returns-in-Ok-Some-clause-place : goal.returns-in-Ok-Some-clause-place
+returns-in-Ok-Some-clause-place g c =
+    let old = c.args.reader.now.gate in
+    let new = c.next_batch.new.self.gate in
+    let next = at-some (IsNextBatch old new) c.in-Ok-Some.field-0 c.in-Ok-Some.batch c.in-Ok-Some.field-0-is c.in-Ok-Some.ensures.batch in
+    ap (λ (gate : NextGate). gate.place) next.gate

@@ -1,0 +1,88 @@
+// Executes a window of a log while it is read.
+ghost use Rattle.std.specs.Prelude.{◌≡◌, ◌≤◌, ℕ, IfOk, IsErrOf, map};
+ghost use Rattle.pac_outside.specs.Causes.{one_more};
+ghost use Rattle.pac_types.specs.Fits.{FitsCatalogue, shape};
+ghost use Rattle.pac_flat.specs.Agreement.{ReplaysTheSame};
+ghost use Rattle.pac_flat.specs.FlatForm.{program_of};
+ghost use Rattle.pac_log.specs.declared.damage.DamageKind.{DamageKind as ALogDamage};
+ghost use Rattle.pac_check.specs.declared.damage.SlotDamageKind.{SlotDamageKind as ASlotDamage};
+ghost use Rattle.pac_check.specs.declared.info.SlotName.{SlotName as ASlotName};
+ghost use Rattle.pac_recover.specs.declared.errors.Damage.TheVariants.{Log as InLog, Slot as InSlot};
+ghost use Rattle.pac_recover.specs.FedLogs.{OfKnownLog};
+ghost use Rattle.pac_recover.specs.Outcomes.{FitsReplayed};
+ghost use Rattle.pac_recover.specs.Windows.{IsExecutedWindow};
+
+use crate::workers::execution_of;
+use crate::{Execution, LoadError, LogFeed};
+use pac_base::Exact;
+use pac_log::LogReader;
+use pac_outside::{Disk, Gate};
+use pac_plan::Plan;
+use pac_tables::{JoinedRows, TableRows};
+use pac_types::Catalogue;
+use pac_workers::execute_feed;
+use std::alloc::Global;
+use std::sync::Wait;
+use std::thread::Threads;
+
+// How many bytes of bodies are executed together, and at most one batch more.
+const WINDOW: u64 = 4_194_304;
+
+/// A window that was executed.
+#[derive(Drop)]
+pub(crate) struct ExecutedWindow<T: TableRows> {
+    pub executed: Execution<T>,
+    /// Whether the log ends with it.
+    pub is_last: bool,
+}
+
+/// Executes a window of a log from the reader's gate on over tables, by so many workers, while this thread reads it. A window has bodies
+/// of 4,194,304 bytes, and at most one batch more, or ends where the log ends.
+///
+/// # Errors
+///
+/// - What the reading is refused for, whatever was executed.
+/// - [`LoadError::NoMemory`] where an allocation is refused.
+pub(crate) fn execute_window<
+    D: Disk,
+    T: TableRows + Send,
+    H: Threads + Wait + Sync,
+    G: Gate + Sync,
+>(
+    rt: &H,
+    alloc: Global,
+    workers: u32,
+    _cat: &Catalogue,
+    plan: &Plan,
+    tables: JoinedRows<T>,
+    reader: &mut LogReader,
+    disk: &mut D,
+    gate: &G,
+) -> Result<ExecutedWindow<T>, LoadError>
+    requires workers { 1 ≤ workers }
+    requires programs { plan.now.programs ≡ map program_of _cat.now.procs }
+    requires shapes { plan.now.tables ≡ map shape _cat.now.tables }
+    requires replays { ReplaysTheSame _cat.now.procs plan.now.programs }
+    requires same { reader.old.gate.catalogue ≡ _cat.now }
+    requires fits { FitsCatalogue _cat.now tables.tables tables.rows }
+    ensures fits { IfOk result (λ window. FitsReplayed _cat.now window.executed) }
+    ensures window { IfOk result (λ window. IsExecutedWindow (D.known disk.old) _cat.now.procs reader.old.gate reader.new.gate tables.rows window.executed window.is_last) }
+    ensures log_damage { (at : ℕ) (kind : ALogDamage) → IsErrOf result (LoadError.Damaged (InLog at kind)) → OfKnownLog (D.known disk.old) reader.old.gate (λ text before after. ⊥) }
+    ensures slot_damage { (slot : ASlotName) (at : ℕ) (kind : ASlotDamage) → ¬ IsErrOf result (LoadError.Damaged (InSlot slot at kind)) }
+    ensures no_store { ¬ IsErrOf result LoadError.NoStore }
+    ensures same { D.known disk.new ≡ D.known disk.old }
+    ensures counted { IsErrOf result LoadError.DiskFault → D.faults disk.new ≡ one_more (D.faults disk.old) }
+    ensures kept { ¬ IsErrOf result LoadError.DiskFault → D.faults disk.new ≡ D.faults disk.old }
+{
+    let plan = plan.copy(alloc)?;
+    let first = reader.gate().txns() + 1;
+    let mut feed = LogFeed::new(reader, disk, WINDOW);
+    let executed = execute_feed(rt, alloc, workers, plan, first, tables, &mut feed, gate);
+    if let Some(cause) = feed.refusal() {
+        return Err(LoadError::from(cause));
+    }
+    Ok(ExecutedWindow {
+        executed: execution_of(executed?),
+        is_last: feed.is_at_end(),
+    })
+}
