@@ -30,3 +30,5 @@ mod store_files;
 mod streams;
 #[cfg(test)]
 mod tokens;
+#[cfg(test)]
+mod windows;

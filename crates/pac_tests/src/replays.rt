@@ -12,13 +12,13 @@ use std::thread::Threads;
 
 /// Writes down which pieces pass, in order.
 #[derive(Drop)]
-struct Passed {
+pub(crate) struct Passed {
     count: AtomicU64,
     pieces: Vec<AtomicU64>,
 }
 
 impl Passed {
-    fn new(alloc: Global, room: u64) -> Result<Passed, AllocError> {
+    pub fn new(alloc: Global, room: u64) -> Result<Passed, AllocError> {
         let mut pieces = Vec::new(alloc);
         for _ in 0..room {
             pieces.push(AtomicU64::new(0))?;
@@ -30,7 +30,7 @@ impl Passed {
     }
 
     // Whether these passed, by transaction and block, and no others.
-    fn are(&self, expected: &[(u64, u16)]) -> bool {
+    pub fn are(&self, expected: &[(u64, u16)]) -> bool {
         if self.count.load(Ordering::SeqCst) != expected.len() as u64 {
             return false;
         }
@@ -184,8 +184,8 @@ flush
 call Transfer(1, 40)
 ";
 
-// The pieces of the bank's three batches, in the order in which one worker runs them.
-const IN_ORDER: &[(u64, u16)] = &[
+/// The pieces of the bank's three batches, in the order in which one worker runs them.
+pub(crate) const IN_ORDER: &[(u64, u16)] = &[
     (1, 2),
     (1, 3),
     (1, 4),
