@@ -1,9 +1,9 @@
 #!/bin/bash
 # Times the program and parts of it, for docs/COSTS.md.
 #
-#     tools/times.sh replay|input|parts|log|slots|runs|committed|rows|pieces|shares|workers|restarts
+#     tools/times.sh replay|input|parts|log|slots|runs|committed|rows|pieces|shares|workers|restarts|stream
 #
-# `replay`, `input`, `runs` and `workers` time the program, which is $PACMAN or crates/pacman/out/pacman, and `committed`, `shares`
+# `replay`, `input`, `runs`, `workers` and `stream` time the program, which is $PACMAN or crates/pacman/out/pacman, and `committed`, `shares`
 # and `restarts` count its instructions. The others time pac_bench, which is $PAC_BENCH or crates/pac_bench/out/pac_bench, as
 # `(cd crates/pac_bench && rt run -- copy 1)` makes it. All files are made in a new folder of the current directory, which
 # is removed: its disk is what `log`, `slots` and `runs` time.
@@ -105,9 +105,14 @@ run_with() { "$pacman" "$2" --workers "$1" < "$3" > /dev/null; }
 
 run_replay() { "$pacman" replay < "$1" > /dev/null; }
 
-# The most memory of a command whose input is a file, where GNU time is there.
+# The time and the most memory of a command, by its words, whose input is a file.
 memory() {
-    if [ -x /usr/bin/time ]; then /usr/bin/time -f '  %e s, %M kB' "$pacman" "$1" < "$2" > /dev/null; else time "$pacman" "$1" < "$2" > /dev/null; fi
+    python3 -c 'import resource, subprocess, sys, time
+begun = time.perf_counter()
+with open(sys.argv[1], "rb") as given:
+    subprocess.run(sys.argv[2:], stdin=given, stdout=subprocess.DEVNULL)
+peak = resource.getrusage(resource.RUSAGE_CHILDREN).ru_maxrss
+print(f"  {time.perf_counter() - begun:.2f} s, {peak} kB")' "$2" "$pacman" $1
 }
 
 case $section in
@@ -224,6 +229,18 @@ restarts)
             echo "$name: recover, in pieces"
             echo "  instructions: $(cat count)"
         )
+    done
+    ;;
+stream)
+    # A log of half the greatest length and one of nearly all, of calls of two ints. Each run but the first restarts.
+    head -2 "$add" > catalogue
+    calls 2850000 1000 > lines
+    for runs in 2 4; do
+        rm -f pacman.*
+        "$pacman" init < catalogue
+        for _ in $(seq "$runs"); do "$pacman" run --batch 1024 < lines > replies; done
+        echo "$((runs * 2850000)) calls, a log of $(wc -c < pacman.log) bytes"
+        for workers in 1 4; do echo " recover by $workers"; memory "recover --workers $workers" /dev/null; done
     done
     ;;
 rows)
