@@ -150,14 +150,16 @@ pieces)
     for part in queue long_queue; do for rounds in 0 100; do counted "$rounds rounds: $part" "$bench" "$part" "$rounds"; done; done
     ;;
 shares)
-    # What is made of the pieces of a stress test by one worker, function by function, each with all that it calls. What the
-    # compiler put into its callers has no line of its own: opening pieces, with their accesses and pairs, is a part of `take`, and
-    # finding the sets of a batch a part of `load`.
-    valgrind --tool=callgrind --callgrind-out-file=profile "$pacman" stress 10000 --workers 1 > printed 2> counted
-    pieces=$(sed -n 's/^pieces //p' printed)
-    echo "instructions a piece, of $pieces pieces"
-    callgrind_annotate --inclusive=yes --threshold=100 profile | tr -d , | awk -v pieces="$pieces" '
-        match($0, /:pac_(workers|core|sched|sets|piece|keys|interface|batch|tables|undo)::[^[]*/) && $1 >= pieces { printf "  %7d %s\n", $1 / pieces, substr($0, RSTART + 1, RLENGTH - 1) }'
+    # What is made of the pieces of a stress test by one worker and by two, function by function, each with all that it calls. What
+    # the compiler put into its callers has no line of its own: opening pieces, with their accesses and pairs, is a part of
+    # `next_ready`, and finding the sets of a batch a part of `load`.
+    for workers in 1 2; do
+        valgrind --tool=callgrind --callgrind-out-file=profile "$pacman" stress 10000 --workers "$workers" > printed 2> counted
+        pieces=$(sed -n 's/^pieces //p' printed)
+        echo "instructions a piece, of $pieces pieces, by $workers"
+        callgrind_annotate --inclusive=yes --threshold=100 profile | tr -d , | awk -v pieces="$pieces" '
+            match($0, /:pac_(workers|core|sched|sets|piece|keys|interface|batch|tables|undo)::[^[]*/) && $1 >= pieces { printf "  %7d %s\n", $1 / pieces, substr($0, RSTART + 1, RLENGTH - 1) }'
+    done
     ;;
 log)
     for part in commit commits; do
