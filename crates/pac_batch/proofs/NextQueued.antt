@@ -153,7 +153,7 @@ module _ (accesses : List Access) (queued : List Queued) (moved : IsPermutation 
             let f = of_index r i p.0 p.2 in
             let after : p0.0 ≤ p.0 = elim (cases_lt p.0 p0.0) [ inl below ↦ absurd (not_false (of_access r i p0.0) (p.3 p0.0 below p0.1) (is_of r i p0.0 p0.2 p0.3)) | inr le ↦ le ] in
             let wrote : writes p.0 ≡ true = order.writes_last p0.0 p.0 after p.1 (p0.2 ∙ sym e) (p0.3 ∙ sym f) p0.4 in
-            let q0 = placed accesses queued moved j r inside other in
+            let q0 = placed accesses queued moved j r inside other i (omega (arith, lt, inside)) wi in
             let q = first_such (of_access r j) q0.0 (is_of r j q0.0 q0.2 q0.3) in
             let near = q.1 in
             let limit = q0.1 in
@@ -162,7 +162,7 @@ module _ (accesses : List Access) (queued : List Queued) (moved : IsPermutation 
 
         by_second : writes_in (at j) r ≡ true → AreJoinedBelow queued (length queued) i j
         by_second wj =
-            let p0 = placed accesses queued moved i r (omega (arith, lt, inside)) one in
+            let p0 = placed accesses queued moved i r (omega (arith, lt, inside)) one j inside wj in
             let p = last_such (of_access r i) (length queued) p0.0 p0.1 (is_of r i p0.0 p0.2 p0.3) in
             let q0 = written accesses queued moved j r inside wj in
             let q = first_such (λ m. of_access r j m && writes m) q0.0 (and_both (of_access r j q0.0) (writes q0.0) (is_of r j q0.0 q0.2 q0.3) q0.4) in

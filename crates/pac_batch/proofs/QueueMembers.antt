@@ -1,12 +1,12 @@
 -- What stands in the queues of accesses, however they are arranged: each access in its queues, and nothing else.
-use Rattle.std.proofs.Common.{◌≡◌, ℕ, zero, suc, ◌+◌, ◌<◌, true, false, ◌&&◌, List, [], ◌∷◌, map, length, get_or, Option, Some, None, refl, sym, ap, ◌∙◌, subst, true≢false, ◌⊎◌, inl, inr, ⊎_elim, arith, IsPermutation}
+use Rattle.std.proofs.Common.{◌≡◌, ℕ, zero, suc, ◌+◌, ◌<◌, Bool, true, false, ◌&&◌, ◌||◌, List, [], ◌∷◌, map, length, get_or, Option, Some, None, refl, sym, ap, ◌∙◌, subst, true≢false, ◌⊎◌, inl, inr, ⊎_elim, arith, IsPermutation}
 use Rattle.std.specs.Prelude.{Contains}
 use Rattle.std.specs.Ordering.{eq_by_cmp}
 use Rattle.std.proofs.lemmas.List.{get_or_default}
 use Rattle.std.proofs.lemmas.List.Elements.{Contains-get_or, Contains-append_left, Contains-append_right, Contains-append_cases}
 use Rattle.std.proofs.lemmas.List.Sorted.{Contains-permutation, IsPermutation-sym}
 use Rattle.pac_base.specs.Members.{Mem}
-use Rattle.pac_base.proofs.TestLemmas.{any_mem, any_gives, and_left, and_right, and_both}
+use Rattle.pac_base.proofs.TestLemmas.{any_mem, any_gives, and_left, and_right, and_both, or_left, or_right}
 use Rattle.pac_value.specs.State.{Cell, cell_cmp}
 use Rattle.pac_value.proofs.CellLemmas.{same-cell, tied_same}
 use Rattle.pac_plan.specs.declared.access.Touch.{Touch}
@@ -16,7 +16,7 @@ use Rattle.pac_plan.specs.Pieces.{named_cell}
 use Rattle.pac_plan.specs.NextPairs.{is_whole}
 use Rattle.pac_batch.specs.declared.queues.Queued.{Queued}
 use Rattle.pac_batch.specs.Conflicts.{access_in}
-use Rattle.pac_batch.specs.Queues.{queued_touch, queued_block, queued_touches, block_from, rows_from, queued_all, stands_in, writes_in, entry}
+use Rattle.pac_batch.specs.Queues.{queued_touch, queued_block, queued_touches, block_from, block_queue, rows_from, any_whole, queued_all, stands_in, writes_in, entry}
 
 -- ---- lists
 
@@ -148,7 +148,17 @@ of_rows accesses e h =
     (subst (λ k. k < length accesses) index at.1, subst (λ k. Says k (access_in accesses k) e) index (let f = say.0 in omega (arith, f), say.1, say.2))
 
 of_all : (accesses : List Access) (e : Queued) → Contains (queued_all accesses) e → Stands accesses e
-of_all accesses e h = ⊎_elim (of_block accesses e) (of_rows accesses e) (Contains-append_cases (block_from 0 accesses) (rows_from 0 accesses) e h)
+of_all accesses e h = ⊎_elim (of_queue (any_whole accesses)) (of_rows accesses e) (Contains-append_cases (block_queue (any_whole accesses) accesses) (rows_from 0 accesses) e h)
+  where
+    of_queue : (b : Bool) → Contains (block_queue b accesses) e → Stands accesses e
+    of_queue true here = of_block accesses e here
+    of_queue false here = absurd (none e here)
+
+-- one that is of the whole block is one of them
+some_whole : (xs : List Access) (k : ℕ) → k < length xs → is_whole (access_in xs k) ≡ true → any_whole xs ≡ true
+some_whole [] k within h = absurd (omega (arith, within))
+some_whole (x ∷ xs) zero within h = or_left (is_whole x) (any_whole xs) h
+some_whole (x ∷ xs) (suc k) within h = or_right (is_whole x) (any_whole xs) (some_whole xs k (omega (arith, within)) h)
 
 -- ---- the queues in any arrangement
 
@@ -164,24 +174,25 @@ module _ (accesses : List Access) (queued : List Queued) (moved : IsPermutation 
       let found = Contains-permutation (queued_all accesses) queued e moved h in
       (found.0, found.1, get_or_default queued found.0 (queued_block 0 false) e found.1 ∙ found.2)
 
-  in_block : (i : ℕ) → i < length accesses → Contains (queued_all accesses) (queued_block i (is_whole (access_in accesses i)))
-  in_block i inside =
+  in_block : (i : ℕ) → i < length accesses → any_whole accesses ≡ true → Contains (queued_all accesses) (queued_block i (is_whole (access_in accesses i)))
+  in_block i inside whole =
       let same : 0 + i ≡ i = omega arith in
-      Contains-append_left (block_from 0 accesses) (rows_from 0 accesses) (queued_block i (is_whole (access_in accesses i)))
-      (subst (λ n. Contains (block_from 0 accesses) (queued_block n (is_whole (access_in accesses i)))) same (to_block 0 accesses i inside))
+      Contains-append_left (block_queue (any_whole accesses) accesses) (rows_from 0 accesses) (queued_block i (is_whole (access_in accesses i)))
+      (subst (λ b. Contains (block_queue b accesses) (queued_block i (is_whole (access_in accesses i)))) (sym whole)
+      (subst (λ n. Contains (block_from 0 accesses) (queued_block n (is_whole (access_in accesses i)))) same (to_block 0 accesses i inside)))
 
   in_rows : (i : ℕ) (e : Queued) → i < length accesses → Contains (queued_touches i (access_in accesses i)) e → Contains (queued_all accesses) e
   in_rows i e inside h =
       let same : i ≡ 0 + i = omega arith in
-      Contains-append_right (block_from 0 accesses) (rows_from 0 accesses) e (to_rows 0 accesses e i inside (subst (λ n. Contains (queued_touches n (access_in accesses i)) e) same h))
+      Contains-append_right (block_queue (any_whole accesses) accesses) (rows_from 0 accesses) e (to_rows 0 accesses e i inside (subst (λ n. Contains (queued_touches n (access_in accesses i)) e) same h))
 
-  -- an access stands in each of its queues
-  pub placed : (i : ℕ) (r : Option Cell) → i < length accesses → stands_in (access_in accesses i) r ≡ true
+  -- an access stands in each of its queues in which one modifies
+  pub placed : (i : ℕ) (r : Option Cell) → i < length accesses → stands_in (access_in accesses i) r ≡ true → (k : ℕ) → k < length accesses → writes_in (access_in accesses k) r ≡ true
       → (p : ℕ) × (p < length queued) × ((entry queued p).row ≡ r) × ((entry queued p).index ≡ i)
-  placed i None inside h =
-      let at = position (queued_block i (is_whole (access_in accesses i))) (in_block i inside) in
+  placed i None inside h k there wrote =
+      let at = position (queued_block i (is_whole (access_in accesses i))) (in_block i inside (some_whole accesses k there wrote)) in
       (at.0, at.1, ap (λ (x : Queued). x.row) at.2, ap (λ (x : Queued). x.index) at.2)
-  placed i (Some a) inside h =
+  placed i (Some a) inside h k there wrote =
       let e = stands i (access_in accesses i) a h in
       let at = position e.0 (in_rows i e.0 inside e.1.0) in
       (at.0, at.1, ap (λ (x : Queued). x.row) at.2 ∙ e.1.1, ap (λ (x : Queued). x.index) at.2 ∙ e.1.2)
@@ -190,7 +201,7 @@ module _ (accesses : List Access) (queued : List Queued) (moved : IsPermutation 
   pub written : (i : ℕ) (r : Option Cell) → i < length accesses → writes_in (access_in accesses i) r ≡ true
       → (p : ℕ) × (p < length queued) × ((entry queued p).row ≡ r) × ((entry queued p).index ≡ i) × ((entry queued p).is_write ≡ true)
   written i None inside h =
-      let at = position (queued_block i (is_whole (access_in accesses i))) (in_block i inside) in
+      let at = position (queued_block i (is_whole (access_in accesses i))) (in_block i inside (some_whole accesses i inside h)) in
       (at.0, at.1, ap (λ (x : Queued). x.row) at.2, ap (λ (x : Queued). x.index) at.2, ap (λ (x : Queued). x.is_write) at.2 ∙ h)
   written i (Some a) inside h =
       let e = writes i (access_in accesses i) a h in

@@ -1,7 +1,7 @@
 // The accesses in their queues.
 ghost use Rattle.std.specs.Prelude.{◌≡◌, ◌≤◌, ◌++◌, length, OnOk, IfOk, map};
 ghost use Rattle.pac_plan.specs.NextPairs.{is_whole};
-ghost use Rattle.pac_batch.specs.Queues.{queued_touch, queued_touches, block_from, rows_from, queued_all};
+ghost use Rattle.pac_batch.specs.Queues.{any_whole, block_from, queued_all, queued_touch, queued_touches, rows_from};
 
 use pac_base::NoMemory;
 use pac_plan::{Access, Touch};
@@ -19,15 +19,30 @@ pub(crate) struct Queued {
     pub is_write: bool,
 }
 
-/// The accesses in their queues: in that of the block, and then in those of rows, so that only these are out of order.
+/// The accesses in their queues: in that of the block, if one of them is of the whole block, and then in those of rows, so that only
+/// these are out of order.
 pub(crate) fn in_queues(alloc: Global, accesses: &[Access]) -> Result<Vec<Queued>, NoMemory>
     requires { length accesses.now ≤ 4294967295 }
     ensures { IfOk result (λ queued. queued.items ≡ queued_all accesses.now) }
 {
     let mut queued = Vec::with_capacity(alloc, accesses.len())?;
-    add_block(accesses, &mut queued)?;
+    if any_whole(accesses) {
+        add_block(accesses, &mut queued)?;
+    }
     add_rows(accesses, &mut queued)?;
     Ok(queued)
+}
+
+// Whether one of them is of the whole block.
+fn any_whole(accesses: &[Access]) -> bool
+    ensures { result ≡ any_whole accesses.now }
+{
+    for access in accesses {
+        if is_whole(access) {
+            return true;
+        }
+    }
+    false
 }
 
 // Adds accesses in the queue of the block.

@@ -4,7 +4,7 @@ use Rattle.std.specs.Prelude.{Contains}
 use Rattle.std.proofs.lemmas.List.Elements.{Contains-get_or}
 use Rattle.std.proofs.lemmas.List.Sorted.{length_permutation}
 use Rattle.pac_batch.specs.declared.queues.Queued.{Queued}
-use Rattle.pac_batch.specs.Queues.{AreJoinedBelow}
+use Rattle.pac_batch.specs.Queues.{AreJoinedBelow, queued_all}
 use Rattle.pac_batch.specs.NextLists.{AreNextPairs, count_touches}
 use Rattle.pac_batch.proofs.NextQueued.{next_pairs}
 use Rattle.pac_batch.proofs.QueueCounts.{count_entries}
@@ -36,9 +36,9 @@ returns-clause-next c =
 
 pub returns-clause-few : goal.returns-clause-few
 returns-clause-few c =
-    let entries : length c.deref.result.now ≡ count_touches c.args.accesses.now + length c.args.accesses.now =
-    ap length c.deref.ensures.value ∙ length_permutation _ _ c.in_ok-queued.ensures.moved ∙ count_entries c.args.accesses.now in
+    let entries : length c.deref.result.now ≡ length (queued_all c.args.accesses.now) = ap length c.deref.ensures.value ∙ length_permutation _ _ c.in_ok-queued.ensures.moved in
+    let most = count_entries c.args.accesses.now in
     let joined = c.in_ok-pairs.ensures.few in
     let kept = c.order.ensures.few in
     let made : length c.new.result ≡ length c.order.new.pairs.items = ap (λ (ps : List (ℕ × ℕ)). length ps) c.new.ensures in
-    omega (arith, entries, joined, kept, made)
+    omega (arith, entries, most, joined, kept, made)
