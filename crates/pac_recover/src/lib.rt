@@ -3,7 +3,7 @@
 //!
 //! - [`recover`]: the tables after all stored transactions, [`Recovered`]; or the first transaction that aborts, or the first
 //!   table over a limit of rows, or damage: a [`RecoverError`]. It scans the store, and reads the log again window by window,
-//!   while workers execute each window over hashed tables.
+//!   while workers execute each window over hashed tables. [`recover_by_windows`] does so with windows of another size.
 //! - [`scan`]: what is stored but for the transactions, [`Scanned`]: the catalogue with its plan, the tables of the newest slot,
 //!   the log's reader at its first gate and the slots. Or the first [`Damage`], a [`LoadError`].
 //! - [`load`]: the same with the batches of the log after the newest slot, [`Loaded`], and the log's reader at its end.
@@ -54,7 +54,7 @@ pub use executor::Executor;
 pub use limit::{TooManyRows, test_rows};
 pub use loading::{Loaded, load};
 pub use log_feed::{FeedEnd, LogFeed};
-pub use recovery::{Recovered, recover};
+pub use recovery::{Recovered, recover, recover_by_windows};
 pub use restoring::{Restored, restore};
 pub use scanning::{Scanned, scan};
 pub use workers::execute_by;

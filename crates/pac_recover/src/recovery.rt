@@ -25,6 +25,9 @@ use std::alloc::Global;
 use std::sync::Wait;
 use std::thread::Threads;
 
+// How many bytes of a log's bodies are executed together, and at most one batch more.
+const WINDOW: u64 = 4_194_304;
+
 /// The tables after all stored transactions.
 #[derive(Drop)]
 pub struct Recovered {
@@ -76,19 +79,26 @@ pub fn recover<D: Disk, H: Threads + Wait + Sync, G: Gate + Sync>(
     ensures disk_fault { IsErrOf result RecoverError.DiskFault → OneFaulted (each D.faults devices.old) (each D.faults devices.new) }
     ensures quiet { ¬ IsErrOf result RecoverError.DiskFault → each D.faults devices.new ≡ each D.faults devices.old }
 {
-    execute_stored(rt, alloc, workers, limit, devices, gate)
+    recover_by_windows(rt, alloc, workers, WINDOW, limit, devices, gate)
 }
 
-// The same, without what it says of a history.
-fn execute_stored<D: Disk, H: Threads + Wait + Sync, G: Gate + Sync>(
+/// Recovers the tables of a store like [`recover`], and holds at a time the batches of so many bytes of the log, and at most one more:
+/// with small windows it takes less memory, and workers wait more often.
+///
+/// # Errors
+///
+/// Those of [`recover`].
+pub fn recover_by_windows<D: Disk, H: Threads + Wait + Sync, G: Gate + Sync>(
     rt: &H,
     alloc: Global,
     workers: u32,
+    window: u64,
     limit: u64,
     devices: &mut Devices<D>,
     gate: &G,
 ) -> Result<Recovered, RecoverError>
     requires workers { 1 ≤ workers }
+    requires window { 1 ≤ window }
     ensures recovered { IfOk result (λ recovered. IfReadKnown (IsRecoveredFrom recovered.catalogue recovered.tables.rows recovered.txns) (D.known devices.old.log) (D.known devices.old.slot_a) (D.known devices.old.slot_b)) }
     ensures within { IfOk result (λ recovered. first_over limit (length recovered.catalogue.tables) recovered.tables.rows ≡ None) }
     ensures fits { IfOk result (λ recovered. FitsCatalogue recovered.catalogue recovered.tables.tables recovered.tables.rows) }
@@ -116,6 +126,7 @@ fn execute_stored<D: Disk, H: Threads + Wait + Sync, G: Gate + Sync>(
         rt,
         alloc,
         workers,
+        window,
         &catalogue,
         &plan,
         newest,

@@ -33,7 +33,7 @@ use std::sync::Wait;
 use std::thread::Threads;
 
 /// Executes the transactions of a log after the newest slot over its tables, by so many workers, from the reader's gate, which is
-/// the first. It goes window by window, and nothing is read behind a window in which a transaction aborts.
+/// the first. It goes by windows of so many bytes, and nothing is read behind one in which a transaction aborts.
 ///
 /// # Errors
 ///
@@ -50,6 +50,7 @@ pub(crate) fn replay_scanned<
     rt: &H,
     alloc: Global,
     workers: u32,
+    window: u64,
     cat: &Catalogue,
     plan: &Plan,
     newest: Option<SlotInfo>,
@@ -59,6 +60,7 @@ pub(crate) fn replay_scanned<
     gate: &G,
 ) -> Result<Execution<T>, LoadError>
     requires workers { 1 ≤ workers }
+    requires window { 1 ≤ window }
     requires programs { plan.now.programs ≡ map program_of cat.now.procs }
     requires shapes { plan.now.tables ≡ map shape cat.now.tables }
     requires replays { ReplaysTheSame cat.now.procs plan.now.programs }
@@ -76,7 +78,9 @@ pub(crate) fn replay_scanned<
     ensures kept { ¬ IsErrOf result LoadError.DiskFault → D.faults disk.new ≡ D.faults disk.old }
 {
     seek(alloc, newest, reader, disk)?;
-    replay_windows(rt, alloc, workers, cat, plan, tables, reader, disk, gate)
+    replay_windows(
+        rt, alloc, workers, window, cat, plan, tables, reader, disk, gate,
+    )
 }
 
 // Reads up to the gate that the newest slot is at, and forgets the batches before it.
@@ -112,6 +116,7 @@ fn replay_windows<D: Disk, T: TableRows + Send, H: Threads + Wait + Sync, G: Gat
     rt: &H,
     alloc: Global,
     workers: u32,
+    window: u64,
     cat: &Catalogue,
     plan: &Plan,
     mut tables: JoinedRows<T>,
@@ -120,6 +125,7 @@ fn replay_windows<D: Disk, T: TableRows + Send, H: Threads + Wait + Sync, G: Gat
     gate: &G,
 ) -> Result<Execution<T>, LoadError>
     requires workers { 1 ≤ workers }
+    requires window { 1 ≤ window }
     requires programs { plan.now.programs ≡ map program_of cat.now.procs }
     requires shapes { plan.now.tables ≡ map shape cat.now.tables }
     requires replays { ReplaysTheSame cat.now.procs plan.now.programs }
@@ -138,7 +144,7 @@ fn replay_windows<D: Disk, T: TableRows + Send, H: Threads + Wait + Sync, G: Gat
 {
     for _ in 0..u64::MAX {
         let ExecutedWindow { executed, is_last } = execute_window(
-            rt, alloc, workers, cat, plan, tables, reader, disk, gate,
+            rt, alloc, workers, window, cat, plan, tables, reader, disk, gate,
         )?;
         if is_last {
             return Ok(executed);

@@ -25,9 +25,6 @@ use std::alloc::Global;
 use std::sync::Wait;
 use std::thread::Threads;
 
-// How many bytes of bodies are executed together, and at most one batch more.
-const WINDOW: u64 = 4_194_304;
-
 /// A window that was executed.
 #[derive(Drop)]
 pub(crate) struct ExecutedWindow<T: TableRows> {
@@ -37,7 +34,7 @@ pub(crate) struct ExecutedWindow<T: TableRows> {
 }
 
 /// Executes a window of a log from the reader's gate on over tables, by so many workers, while this thread reads it. A window has bodies
-/// of 4,194,304 bytes, and at most one batch more, or ends where the log ends.
+/// of so many bytes, and at most one batch more, or ends where the log ends.
 ///
 /// # Errors
 ///
@@ -52,6 +49,7 @@ pub(crate) fn execute_window<
     rt: &H,
     alloc: Global,
     workers: u32,
+    bytes: u64,
     _cat: &Catalogue,
     plan: &Plan,
     tables: JoinedRows<T>,
@@ -60,6 +58,7 @@ pub(crate) fn execute_window<
     gate: &G,
 ) -> Result<ExecutedWindow<T>, LoadError>
     requires workers { 1 ≤ workers }
+    requires bytes { 1 ≤ bytes }
     requires programs { plan.now.programs ≡ map program_of _cat.now.procs }
     requires shapes { plan.now.tables ≡ map shape _cat.now.tables }
     requires replays { ReplaysTheSame _cat.now.procs plan.now.programs }
@@ -76,7 +75,7 @@ pub(crate) fn execute_window<
 {
     let plan = plan.copy(alloc)?;
     let first = reader.gate().txns() + 1;
-    let mut feed = LogFeed::new(reader, disk, WINDOW);
+    let mut feed = LogFeed::new(reader, disk, bytes);
     let executed = execute_feed(rt, alloc, workers, plan, first, tables, &mut feed, gate);
     if let Some(cause) = feed.refusal() {
         return Err(LoadError::from(cause));

@@ -7,8 +7,8 @@ returns-clause-stands g c =
     let log = g.D.Disk.known c.args.devices.now.log in
     let a = g.D.Disk.known c.args.devices.now.slot_a in
     let b = g.D.Disk.known c.args.devices.now.slot_b in
-    let h = c.execute_stored.ensures in
-    recovers c.args.limit c.execute_stored.result log a b (record {
+    let h = c.recover_by_windows.ensures in
+    recovers c.args.limit c.recover_by_windows.result log a b (record {
       recovered = h.recovered;
       no_store = h.no_store;
       log_damage = h.log_damage;

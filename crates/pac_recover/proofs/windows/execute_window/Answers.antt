@@ -51,7 +51,7 @@ returns-clause-window g c =
     ∙ ap (λ n. serial procs (n + 1) (txns_in w.batches) c.args.tables.rows) number in
     let of_log = given-from known _ (g.D.Disk.known feed.disk.now) old _ feed.reader.now.gate w.batches _ feed.end (λ i. g.D.Disk.known (c.new-feed.ensures.disk i).now) (λ i. (c.new-feed.ensures.reader i).now.gate) c.new-feed.ensures.end w.given.4 in
     let missing = c.new-feed.result.missing in
-    let some : 1 ≤ missing = let is = c.new-feed.ensures.missing in omega (arith, is) in
+    let some : 1 ≤ missing = let is = c.new-feed.ensures.missing in omega (arith, c.requires.bytes, is) in
     let bodies = subst (λ (e : Option FeedEnd). AreBodiesCounted missing feed.missing w.batches e feed.end) c.new-feed.ensures.end w.given.2 in
     let whole : refusal_of feed.end ≡ None = sym c.refusal.ensures ∙ c.in_default.is in
     let window = executed-window known (g.D.Disk.known feed.disk.now) procs old feed.reader.now.gate c.args.tables.rows c.execution_of.result w.batches missing feed.missing some feed.end of_log bodies c.in_ok-executed.ensures.over whole outcome in

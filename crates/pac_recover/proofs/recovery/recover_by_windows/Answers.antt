@@ -20,7 +20,7 @@ use Rattle.pac_recover.proofs.CauseLemmas.{as-error, no-error, same-error, the-e
 use Rattle.pac_recover.proofs.EndLemmas.{ended-recovered, over-limit, stopped-aborts, stopped-within}
 use Rattle.pac_recover.proofs.LoadLemmas.{three-same}
 use Rattle.pac_recover.proofs.ScanLemmas.{executed-known, load-cause, load-no-abort, load-no-rows, never-log, never-slot}
-use Rattle.pac_recover.proofs.recovery.execute_stored.Goals as goal
+use Rattle.pac_recover.proofs.recovery.recover_by_windows.Goals as goal
 
 pub returns-in_err-executed-clause-log_damage : goal.returns-in_err-executed-clause-log_damage
 returns-in_err-executed-clause-log_damage g c = λ at kind is.
