@@ -1,5 +1,5 @@
 -- The pieces of a set stand by their transactions, ascending, so that a piece stands at one position alone.
-use Rattle.std.proofs.Common.{◌≡◌, ◌⊎◌, ℕ, zero, suc, ◌<◌, Bool, true, false, cond, List, [], ◌∷◌, map, length, get_or, Some, None, sym, ap, ◌∙◌, subst, inl, inr, arith}
+use Rattle.std.proofs.Common.{◌≡◌, ◌⊎◌, ℕ, zero, suc, ◌<◌, Bool, true, false, cond, List, [], ◌∷◌, ◌++◌, map, length, get_or, Some, None, sym, ap, ◌∙◌, subst, inl, inr, arith}
 use Rattle.std.specs.Prelude.{slice_get, filter, position}
 use Rattle.std.proofs.lemmas.Option.{same_Some, slice_get-get_or, slice_get_within}
 use Rattle.pac_base.specs.Members.{Rises}
@@ -26,6 +26,11 @@ rises_filter f (x ∷ xs) r = go (f x) (rises_filter f xs r.1)
 
 pub set_rises : (parts : PlanParts) (first : ℕ) (txns : List Txn) (block : ℕ) → Rises (set_of parts first txns block).txns
 set_rises parts first txns block = rises_filter (λ t. has_piece parts block (txn_at first txns t)) _ (rises-range first (length txns))
+
+-- the last of numbers that rise do
+pub rises_end : (before rest : List ℕ) → Rises (before ++ rest) → Rises rest
+rises_end [] rest r = r
+rises_end (x ∷ xs) rest r = rises_end xs rest r.1
 
 -- numbers that rise stand in their order
 pub rises_at : (xs : List ℕ) → Rises xs → (i j a b : ℕ) → slice_get xs i ≡ Some a → slice_get xs j ≡ Some b → i < j → a < b

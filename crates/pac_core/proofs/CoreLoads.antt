@@ -270,4 +270,6 @@ closed_core p u core = record {
 
     stages_closed : AreStages (core_of (record p { is_closed = true }) u) p.sets.sets
     stages_closed j set (Waiting txns) batch there batch_there = core.progress.stages j set (Waiting txns) batch there batch_there
-    stages_closed j set (Open opening) batch there batch_there = opened set _ opening (core.progress.stages j set (Open opening) batch there batch_there)
+    stages_closed j set (Open opening) batch there batch_there =
+        let is = core.progress.stages j set (Open opening) batch there batch_there in
+        (is.0, is.1, opened set is.0 opening is.2)

@@ -1,4 +1,5 @@
 -- What becomes of a core where a piece at a place is handed out, given back or finished.
+use Rattle.std.specs.Prelude.{slice_get}
 use Rattle.std.proofs.Common.{◌≡◌, ℕ, ◌+◌, ◌-◌, ◌≤◌, true, false, List, length, map, Option, Some, refl, sym, ap, subst, ◌∙◌, arith}
 use Rattle.pac_base.specs.Members.{Mem}
 use Rattle.pac_value.specs.Expressions.{Values}
@@ -31,13 +32,13 @@ use Rattle.pac_core.specs.declared.stage.SetStage.{SetStage}
 use Rattle.pac_core.specs.declared.stage.SetStage.TheVariants.{Open}
 use Rattle.pac_core.specs.Inputs.{LeavesValues}
 use Rattle.pac_core.specs.Links.{IsCore, KeepsProgress, ReadyFrom, batches_of, core_of, job_of, piece_in, replay_so_far, set_of_piece}
-use Rattle.pac_core.specs.Moves.{IsFinishedAt, IsFinishedTo, IsMovedTo, IsOrderAfter}
+use Rattle.pac_core.specs.Moves.{IsFinishedAt, IsFinishedTo, IsMovedTo, IsOrderAfter, after_finish, finished_in}
 use Rattle.pac_core.specs.Places.{AreValuesAt, IsPieceAt, IsTxnAt}
 use Rattle.pac_core.specs.Replay.{loaded_pieces, machine_of, present_of, with_finished, with_out, without_out}
 use Rattle.pac_core.specs.Results.{IsKeptAfter, IsResult}
 use Rattle.pac_core.proofs.BackIn as back
 use Rattle.pac_core.proofs.FinishedOne as finished
-use Rattle.pac_core.proofs.FinishedOne.{IsStepped, out_but}
+use Rattle.pac_core.proofs.FinishedMark.{IsStepped, out_but}
 use Rattle.pac_core.proofs.KeptAt.{ids_stay}
 use Rattle.pac_core.proofs.Lists.{at_map}
 use Rattle.pac_core.proofs.PlacedPieces as placed
@@ -171,6 +172,34 @@ ran_step p u core piece ready = record {
   others = λ q h differ. h;
 }
 
+-- where the replay has a piece finished, with its result written, all is kept
+module _ (p : Progress) (u : Undoable) (core : IsCore p u) (piece : PieceId) (loaded : Mem piece (loaded_pieces (core_of p u))) (at : ℕ) (id : SetId) (stage : Option SetStage)
+    (there : slice_get p.sets.sets at ≡ Some (set_of_piece (batches_of p) piece, stage))
+    (writes : List Write) (outs : Values) (note : Option Note) (result : IsResult (core_of p u) piece writes outs note)
+    (next : Option SetStage) (i : ℕ) (kept_now : Values) (new : Progress) (to : IsFinishedTo p at id next i kept_now note new)
+    (replay : replay_so_far (job_of p u) new ≡ with_finished (core_of p u) piece) (keeps : KeepsProgress (job_of p u) new)
+    (present : apply (world_at (job_of p u) (machine_of (core_of p u))) piece (present_of (core_of p u)) ≡ present_of (with_finished (core_of p u) piece))
+    (after : Undoable) (undo : after ≡ record u { current = written u.current writes }) where
+  -- the job is the same
+  job_same : job_of new after ≡ job_of p u
+  job_same = λ k. record { parts = to.pieces k; first = to.first k; tables = ap (λ (x : Undoable). x.opening) undo k }
+
+  pub ended_is : core_of new after ≡ with_finished (core_of p u) piece
+  ended_is = ap (λ (j : Job). replay_so_far j new) job_same ∙ replay
+
+  pub ended_core : IsCore new after
+  ended_core = record {
+    progress = subst (λ (j : Job). KeepsProgress j new) (sym job_same) keeps;
+    tables = ap (λ (x : Undoable). x.tables) undo ∙ core.tables ∙ ap (λ (parts : PlanParts). length parts.tables) (sym to.pieces);
+    rows =
+        ap (λ (x : Undoable). x.current) undo
+        ∙ ap (λ (t : Tables). written t writes) core.rows
+        ∙ sym result.tables
+        ∙ ap (λ (s : Present). s.tables) (present ∙ ap present_of (sym replay) ∙ ap (λ (j : Job). present_of (replay_so_far j new)) (sym job_same));
+    seen = subst (λ (j : Job). ReadyFrom j new new.recent) (sym job_same)
+        (seen_finished (job_of p u) p core.progress piece new to.batches (ap (λ (s : Setting SetStage). map (λ (set : Kept SetStage). set.0) s.sets) to.sets ∙ ids_stay p.sets.sets at next) core.seen loaded at stage there to.recent replay);
+  }
+
 module _ (p : Progress) (u : Undoable) (core : IsCore p u) (place : Place) (piece : PieceId) (far : PieceState) (at : IsPieceAt p place piece far) (unfinished : is_finished far ≡ false)
     (stepped : IsStepped (core_of p u) piece) (txn : Txn) (txn_is : IsTxnAt p place txn) (kept : Values) (kept_is : AreValuesAt p place kept)
     (writes : List Write) (outs : Values) (note : Option Note) (result : IsResult (core_of p u) piece writes outs note) (kept_now : Values) (leaves : IsKeptAfter p place piece outs kept_now)
@@ -187,8 +216,8 @@ module _ (p : Progress) (u : Undoable) (core : IsCore p u) (place : Place) (piec
   order_end : IsInOrder (with_state at.stands.opening.sched end_piece state.Finished)
   order_end = subst (λ (x : PieceId). IsInOrder (with_state at.stands.opening.sched x state.Finished)) (sym end_own) (order at.stands.set at.stands.opening at.stands.there)
 
-  to_end : IsFinishedTo p place.at at.stands.set at.stands.opening end_piece place.index kept_now note new
-  to_end = subst (λ (x : PieceId). IsFinishedTo p place.at at.stands.set at.stands.opening x place.index kept_now note new) (sym end_own)
+  to_end : IsFinishedTo p place.at at.stands.set (after_finish (finished_in at.stands.opening end_piece)) place.index kept_now note new
+  to_end = subst (λ (x : PieceId). IsFinishedTo p place.at at.stands.set (after_finish (finished_in at.stands.opening x)) place.index kept_now note new) (sym end_own)
       (to at.stands.set at.stands.opening at.stands.there (placed.batch_is end_job p core.progress place piece far at))
 
   stepped_end : IsStepped (core_of p u) end_piece
@@ -232,28 +261,18 @@ module _ (p : Progress) (u : Undoable) (core : IsCore p u) (place : Place) (piec
       let same : at.stands.set.batch ≡ batch_of (batches_of p) piece.txn - 1 = omega (arith, batch, number) in
       λ k. record { batch = same k; block = at.stands.set.block }
 
-  -- the job is the same
-  job_same : (after : Undoable) → after.opening ≡ u.opening → job_of new after ≡ end_job
-  job_same after same = λ k. record { parts = to_end.pieces k; first = to_end.first k; tables = same k }
+  -- the set stands there
+  end_there : slice_get p.sets.sets place.at ≡ Some (set_of_piece (batches_of p) end_piece, Some (Open at.stands.opening))
+  end_there = at.stands.there ∙ ap (λ (s : SetId). Some (s, Some (Open at.stands.opening))) end_set
+
+  end_loaded : Mem end_piece (loaded_pieces (core_of p u))
+  end_loaded = subst (λ (x : PieceId). Mem x (loaded_pieces (core_of p u))) (sym end_own) (placed.loaded_is end_job p core.progress place piece far at)
 
   module _ (after : Undoable) (undo : after ≡ record u { current = written u.current writes }) where
-    opening_same : after.opening ≡ u.opening
-    opening_same = ap (λ (x : Undoable). x.opening) undo
-
     pub end_is : core_of new after ≡ with_finished (core_of p u) piece
-    end_is = ap (λ (j : Job). replay_so_far j new) (job_same after opening_same) ∙ end_replay ∙ ap (with_finished (core_of p u)) end_own
+    end_is = ended_is p u core end_piece end_loaded place.at at.stands.set (Some (Open at.stands.opening)) end_there writes outs note result_end (after_finish (finished_in at.stands.opening end_piece)) place.index kept_now new to_end
+        end_replay end_keeps end_present after undo ∙ ap (with_finished (core_of p u)) end_own
 
     pub end_core : IsCore new after
-    end_core = record {
-      progress = subst (λ (j : Job). KeepsProgress j new) (sym (job_same after opening_same)) end_keeps;
-      tables = ap (λ (x : Undoable). x.tables) undo ∙ core.tables ∙ ap (λ (parts : PlanParts). length parts.tables) (sym to_end.pieces);
-      rows =
-          ap (λ (x : Undoable). x.current) undo
-          ∙ ap (λ (t : Tables). written t writes) core.rows
-          ∙ sym result_end.tables
-          ∙ ap (λ (s : Present). s.tables) (end_present ∙ ap present_of (sym end_replay) ∙ ap (λ (j : Job). present_of (replay_so_far j new)) (sym (job_same after opening_same)));
-      seen = subst (λ (j : Job). ReadyFrom j new new.recent) (sym (job_same after opening_same))
-          (seen_finished end_job p core.progress end_piece new to_end.batches (ap (λ (s : Setting SetStage). map (λ (set : Kept SetStage). set.0) s.sets) to_end.sets ∙ ids_stay p.sets.sets place.at _) core.seen
-          (subst (λ (x : PieceId). Mem x (loaded_pieces (core_of p u))) (sym end_own) (placed.loaded_is end_job p core.progress place piece far at))
-          place.at (Some (Open at.stands.opening)) (at.stands.there ∙ ap (λ (s : SetId). Some (s, Some (Open at.stands.opening))) end_set) to_end.recent end_replay);
-    }
+    end_core = ended_core p u core end_piece end_loaded place.at at.stands.set (Some (Open at.stands.opening)) end_there writes outs note result_end (after_finish (finished_in at.stands.opening end_piece)) place.index kept_now new to_end
+        end_replay end_keeps end_present after undo

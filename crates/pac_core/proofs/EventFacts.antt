@@ -37,13 +37,15 @@ use Rattle.pac_core.specs.Calls.{IsGivenWork, IsOwn}
 use Rattle.pac_core.specs.Cells.{AreCellsOf, copies_at}
 use Rattle.pac_core.specs.Inputs.{FindsInputs}
 use Rattle.pac_core.specs.Links.{IsCore, KeepsProgress, batches_of, core_of, job_of}
-use Rattle.pac_core.specs.Places.{AreValuesAt, IsPieceAt, IsTxnAt}
+use Rattle.pac_core.specs.Places.{AreValuesAt, IsPieceAt, IsPlaceOf, IsTxnAt}
 use Rattle.pac_core.specs.Replay.{Replay, machine_of, present_of}
 use Rattle.pac_core.specs.Results.{IsResult}
 use Rattle.pac_core.specs.Takes.{IsWorkIn, IsWorkOver, access_now}
 use Rattle.pac_core.proofs.Copies.{copied_in}
 use Rattle.pac_core.proofs.PieceValue.{value_is_apply}
 use Rattle.pac_core.proofs.PlacedPieces as placed
+use Rattle.pac_core.proofs.PlacedTxns as txns
+use Rattle.pac_core.proofs.PlacedTxns.{as_placed}
 use Rattle.pac_core.proofs.Runs.{runnable_copies, runnable_on}
 use Rattle.pac_core.proofs.SameCells.{contains_mem, covered_there, same_cells}
 use Rattle.pac_core.proofs.SetFacts.{ops_at}
@@ -58,7 +60,7 @@ with_numbers : (There : ℕ → Type 0) (os : List NumberedOp) → HaveTables Th
 with_numbers There [] h = tt
 with_numbers There (o ∷ os) h = (h.0, with_numbers There os h.1)
 
-module _ (p : Progress) (u : Undoable) (core : IsCore p u) (place : Place) (piece : PieceId) (far : PieceState) (at : IsPieceAt p place piece far) (txn : Txn) (txn_is : IsTxnAt p place txn) where
+module _ (p : Progress) (u : Undoable) (core : IsCore p u) (place : Place) (piece : PieceId) (at : IsPlaceOf p place piece) (txn : Txn) (txn_is : IsTxnAt p place txn) where
   abbrev pub job : Job
   job = job_of p u
 
@@ -72,13 +74,13 @@ module _ (p : Progress) (u : Undoable) (core : IsCore p u) (place : Place) (piec
   keeps = core.progress
 
   pub fits : TxnFitsPlan p.pieces txn
-  fits = placed.fits job p keeps place piece far at txn txn_is
+  fits = txns.fits job p keeps place piece at txn txn_is
 
   pub block_inside : piece.block < p.pieces.blocks
-  block_inside = placed.block_inside job p keeps place piece far at
+  block_inside = txns.block_inside job p keeps place piece at
 
   there : txn_at job.first (txns_of (batches_of p)) piece.txn ≡ Some txn
-  there = placed.there job p keeps place piece far at txn txn_is
+  there = txns.there job p keeps place piece at txn txn_is
 
   -- ---- tables
 
@@ -86,7 +88,7 @@ module _ (p : Progress) (u : Undoable) (core : IsCore p u) (place : Place) (piec
   tables_there n e = subst (λ n. HaveTables (λ t. t < n) (code_ops (code_in p.pieces piece.block txn))) (sym core.tables ∙ e) (plan_tables p.pieces keeps.is_plan txn fits piece.block)
 
   ops_are : ops (world_at job m) piece ≡ piece_ops p.pieces piece.block txn
-  ops_are = ops_at p.pieces job.first (batches_of p) keeps.machine.run_on piece.txn place.batch place.index (placed.stands_at job p keeps place piece far at) piece.block txn (placed.in_batch job p keeps place piece far at txn txn_is)
+  ops_are = ops_at p.pieces job.first (batches_of p) keeps.machine.run_on piece.txn place.batch place.index (txns.stands_at job p keeps place piece at) piece.block txn (txns.in_batch job p keeps place piece at txn txn_is)
 
   ops_there : (n : ℕ) → u.tables ≡ n → HaveTables (λ t. t < n) (ops (world_at job m) piece)
   ops_there n e =
@@ -101,7 +103,7 @@ module _ (p : Progress) (u : Undoable) (core : IsCore p u) (place : Place) (piec
 
   module _ (kept : Values) (kept_is : AreValuesAt p place kept) where
     pub finds_now : (env : Values) → FindsInputs p.pieces piece.block txn kept env → FindsInputs p.pieces piece.block txn ((present_of r).envs piece.txn) env
-    finds_now env finds = placed.finds_now job p keeps place piece far at txn txn_is kept kept_is env finds
+    finds_now env finds = txns.finds_now job p keeps place piece at txn txn_is kept kept_is env finds
 
     module _ (preds : PredsFinished job m piece) where
       -- ---- what it may be run on
@@ -117,11 +119,11 @@ module _ (p : Progress) (u : Undoable) (core : IsCore p u) (place : Place) (piec
 
       -- ---- what its value makes of the replay
 
-      module _ (unfinished : is_finished far ≡ false) where
+      module _ (unfinished : among r.finished piece ≡ false) where
         pub result_is : (env : Values) → FindsInputs p.pieces piece.block txn kept env → (base : Tables) → ((a : Cell) → covers (access_at job m piece) a ≡ true → get base a ≡ get (present_of r).tables a)
             → (writes : List Write) (outs : Values) (note : Option Note) → IsValueOver piece.txn (code_in p.pieces piece.block txn) env base writes outs note → IsResult r piece writes outs note
         result_is env finds base alike writes outs note value =
-            value_is_apply job keeps.is_plan m keeps.machine piece preds (placed.finished_now job p keeps place piece far at ∙ unfinished) txn there fits env (finds_now env finds) base alike writes outs note value
+            value_is_apply job keeps.is_plan m keeps.machine piece preds unfinished txn there fits env (finds_now env finds) base alike writes outs note value
 
         pub writes_within : (env : Values) (base : Tables) (writes : List Write) (outs : Values) (note : Option Note) → IsValueOver piece.txn (code_in p.pieces piece.block txn) env base writes outs note → AreWithin u.tables writes
         writes_within env base writes outs note value = writes_there u.tables (code_ops (code_in p.pieces piece.block txn)) (state_over env base) writes (tables_there u.tables refl) value.cells
@@ -155,7 +157,7 @@ module _ (p : Progress) (u : Undoable) (core : IsCore p u) (place : Place) (piec
         given_work = (over.piece_is, named.keys, work_in, may_run)
 
         -- what is made of it
-        module _ (unfinished : is_finished far ≡ false) (writes : List Write) (outs : Values) (note : Option Note) (value : IsValueOf work writes outs note) where
+        module _ (unfinished : among r.finished piece ≡ false) (writes : List Write) (outs : Values) (note : Option Note) (value : IsValueOf work writes outs note) where
           value_over : IsValueOver piece.txn (code_in p.pieces piece.block txn) work.env (written empty work.rows) writes outs note
           value_over =
               subst (λ (c : Code). IsValueOver piece.txn c work.env (written empty work.rows) writes outs note) over.code
@@ -190,19 +192,19 @@ module _ (p : Progress) (u : Undoable) (core : IsCore p u) (place : Place) (work
   -- where its cells are known, it is own exactly where it is the work over what is kept
   module _ (cells : List Cell) (named : AreCellsOf (access_at own_job (machine_of own_replay) work.piece) cells) where
     pub own_of : IsWorkOver p.pieces work.piece txn kept cells u.current work → IsOwn own_replay work
-    own_of over = (is_out_now, work_in p u core place work.piece state.Out at txn txn_is kept kept_is cells named work over)
+    own_of over = (is_out_now, work_in p u core place work.piece (as_placed at) txn txn_is kept kept_is cells named work over)
 
     pub of_own : IsOwn own_replay work → IsWorkOver p.pieces work.piece txn kept cells u.current work
     of_own (out, own) = record {
       piece_is = refl;
       code = own.over.code ∙ ap (code_in p.pieces work.piece.block) (sym same_txn);
-      inputs = placed.finds_kept own_job p core.progress place work.piece state.Out at txn txn_is kept kept_is work.env
+      inputs = txns.finds_kept own_job p core.progress place work.piece (as_placed at) txn txn_is kept kept_is work.env
           (subst (λ (t : Txn). FindsInputs p.pieces work.piece.block t ((present_of own_replay).envs work.piece.txn) work.env) (sym same_txn) own.over.inputs);
       rows = own.over.rows ∙ ap (copies_at (present_of own_replay).tables) (same_cells (access_at own_job (machine_of own_replay) work.piece) own.cells cells own.named named) ∙ ap (λ (t : Tables). copies_at t cells) (sym core.rows);
     }
       where
         same_txn : txn ≡ own.txn
-        same_txn = same_Some txn own.txn (sym (placed.there own_job p core.progress place work.piece state.Out at txn txn_is) ∙ own.there)
+        same_txn = same_Some txn own.txn (sym (txns.there own_job p core.progress place work.piece (as_placed at) txn txn_is) ∙ own.there)
 
   -- where its access is whole it isn't
   pub whole_foreign : access_at own_job (machine_of own_replay) work.piece ≡ Whole → IsOwn own_replay work → ⊥

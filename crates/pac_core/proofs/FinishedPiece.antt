@@ -20,7 +20,7 @@ use Rattle.pac_core.specs.declared.stage.OpenSet.{OpenSet}
 use Rattle.pac_core.specs.declared.stage.SetStage.{SetStage}
 use Rattle.pac_core.specs.declared.stage.SetStage.TheVariants.{Open}
 use Rattle.pac_core.specs.Links.{IsUnfinishedBatch, batches_of}
-use Rattle.pac_core.specs.Moves.{AreValuesKept, IsFinishedTo, IsLifted, after_finish, keeps_now_at}
+use Rattle.pac_core.specs.Moves.{AreValuesKept, IsFinishedTo, after_finish, keeps_now_at}
 use Rattle.pac_core.proofs.Moved.{kept_twice}
 
 -- each piece is finished where none is counted
@@ -32,16 +32,16 @@ finished_test s = sym (sum_by-zero (λ (state : PieceState). to_count (not (is_f
     one true = refl
     one false = refl
 
--- the open set with the piece finished
-abbrev pub finished_in : OpenSet → PieceId → OpenSet
-finished_in opening piece = record { sched = with_state opening.sched piece state.Finished; cells = opening.cells }
-
 -- what is kept of the set
 pub after_all : (opening : OpenSet) → all_finished opening.sched ≡ true → ◌≡◌ {A = Option SetStage} None (after_finish opening)
 after_all opening all = sym (ap (λ b. cond b None (Some (Open opening))) all)
 
 pub after_some : (opening : OpenSet) → all_finished opening.sched ≡ false → ◌≡◌ {A = Option SetStage} (Some (Open opening)) (after_finish opening)
 after_some opening some = sym (ap (λ b. cond b None (Some (Open opening))) some)
+
+-- where a progress differs from another one in its sets alone, it differs in them
+pub sets_alone : (p new : Progress) (sets : Setting SetStage) → new ≡ record p { sets = sets } → new ≡ record p { sets = new.sets }
+sets_alone p new sets is = is ∙ sym (ap (λ (x : Progress). record p { sets = x.sets }) is)
 
 -- the sets where a finished one has ended
 pub ended_sets : (p : Progress) (at : ℕ) (opening : OpenSet) → all_finished opening.sched ≡ true → (kept new : Setting SetStage) → kept ≡ record p.sets { sets = with_kept_at p.sets.sets at (Some (Open opening)) }
@@ -51,7 +51,7 @@ ended_sets p at opening all kept new is end =
     ∙ ap (λ (s : Setting SetStage). record s { sets = with_kept_at s.sets at None }) is
     ∙ (λ k. record p.sets { sets = (kept_twice p.sets.sets at (Some (Open opening)) None ∙ ap (with_kept_at p.sets.sets at) (after_all opening all)) k })
 
-module _ (p : Progress) (place : Place) (piece : PieceId) (kept : Values) (note : Option Note) (lifted : Progress) (now : IsLifted p place.at lifted)
+module _ (p : Progress) (place : Place) (kept : Values) (note : Option Note) (lifted : Progress) (now : lifted ≡ record p { sets = lifted.sets })
     (batches : List LoadedBatch) (are : AreValuesKept lifted.batches.items place.batch (keeps_now_at place.index kept) batches) where
   old_batches : map (λ (l : LoadedBatch). l.batch) batches ≡ batches_of p
   old_batches = are.batches ∙ ap batches_of now
@@ -66,13 +66,13 @@ module _ (p : Progress) (place : Place) (piece : PieceId) (kept : Values) (note 
         same ∙ before.3 ∙ ap (λ b. cond (k == b) (keeps_now_at place.index kept before.0.kept.items) before.0.kept.items) (sym own),
       )
 
-  pub finished_to : (id : SetId) (opening : OpenSet) → id.batch ≡ place.batch → (new : Progress) → new.pieces ≡ lifted.pieces
-      → new.sets ≡ record p.sets { sets = with_kept_at p.sets.sets place.at (after_finish (finished_in opening piece)) }
+  pub finished_to : (id : SetId) (after : Option SetStage) → id.batch ≡ place.batch → (new : Progress) → new.pieces ≡ lifted.pieces
+      → new.sets ≡ record p.sets { sets = with_kept_at p.sets.sets place.at after }
       → new.note ≡ least lifted.note note → new.first ≡ lifted.first → new.next ≡ lifted.next → new.unfinished + 1 ≡ lifted.unfinished → new.is_closed ≡ lifted.is_closed → (new.recent ≤ lifted.recent) × (new.recent ≤ place.at)
       → batches_of new ≡ map (λ (l : LoadedBatch). l.batch) batches
       → ((k : ℕ) (loaded : LoadedBatch) → slice_get new.batches.items k ≡ Some loaded → IsUnfinishedBatch new.sets.sets k → (q : LoadedBatch) × (slice_get batches k ≡ Some q) × (loaded.batch ≡ q.batch) × (loaded.kept.items ≡ q.kept.items))
-      → IsFinishedTo p place.at id opening piece place.index kept note new
-  finished_to id opening own new pieces sets note_is first next unfinished closed recent batches_are values = record {
+      → IsFinishedTo p place.at id after place.index kept note new
+  finished_to id after own new pieces sets note_is first next unfinished closed recent batches_are values = record {
     pieces = pieces ∙ ap (λ (x : Progress). x.pieces) now;
     sets = sets;
     note_is = note_is ∙ ap (λ (x : Progress). least x.note note) now;

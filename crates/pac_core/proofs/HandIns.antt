@@ -19,17 +19,19 @@ use Rattle.pac_core.specs.declared.progress.Progress.{Progress}
 use Rattle.pac_core.specs.Calls.{IsOwn}
 use Rattle.pac_core.specs.Links.{IsCore, core_of, job_of}
 use Rattle.pac_core.specs.Moves.{IsFinishedAt, IsOrderAfter}
-use Rattle.pac_core.specs.Places.{AreValuesAt, IsPieceAt, IsTxnAt}
+use Rattle.pac_core.specs.Places.{AreValuesAt, IsPieceAt, IsPlaceOf, IsTxnAt}
 use Rattle.pac_core.specs.Replay.{machine_of, with_finished}
 use Rattle.pac_core.specs.Results.{IsKeptAfter, IsResult}
 use Rattle.pac_core.specs.Takes.{IsWorkOver}
 use Rattle.pac_core.proofs.CoreMoves.{end_core, end_is, kept_step, ran_step}
 use Rattle.pac_core.proofs.EventFacts.{of_own, out_preds, work_result, work_within}
 use Rattle.pac_core.proofs.PlacedPieces as placed
+use Rattle.pac_core.proofs.PlacedTxns as txns
+use Rattle.pac_core.proofs.PlacedTxns.{as_placed}
 
 -- ---- what stands at a place
 
-module _ (p : Progress) (u : Undoable) (core : IsCore p u) (place : Place) (piece : PieceId) (far : PieceState) (at : IsPieceAt p place piece far) where
+module _ (p : Progress) (u : Undoable) (core : IsCore p u) (place : Place) (piece : PieceId) (at : IsPlaceOf p place piece) where
   pub txn_there : (txn : Txn) × IsTxnAt p place txn
   txn_there = let found = item_at at.txn.loaded.batch.txns place.index at.txn.inside in (found.0, (at.txn.loaded, at.txn.there, found.1))
 
@@ -39,7 +41,7 @@ module _ (p : Progress) (u : Undoable) (core : IsCore p u) (place : Place) (piec
       room : place.index < length at.txn.loaded.kept.items
       room =
           let inside = at.txn.inside in
-          let len = placed.kept_len (job_of p u) p core.progress place piece far at in
+          let len = txns.kept_len (job_of p u) p core.progress place piece at in
           omega (arith, inside, len)
 
 -- ---- own work
@@ -47,27 +49,27 @@ module _ (p : Progress) (u : Undoable) (core : IsCore p u) (place : Place) (piec
 module _ (p : Progress) (u : Undoable) (core : IsCore p u) (place : Place) (work : Work) (at : IsPieceAt p place work.piece state.Out) (own : IsOwn (core_of p u) work)
     (writes : List Write) (outs : Values) (note : Option Note) (value : IsValueOf work writes outs note) where
   abbrev txn : Txn
-  txn = (txn_there p u core place work.piece state.Out at).0
+  txn = (txn_there p u core place work.piece (as_placed at)).0
 
   abbrev txn_is : IsTxnAt p place txn
-  txn_is = (txn_there p u core place work.piece state.Out at).1
+  txn_is = (txn_there p u core place work.piece (as_placed at)).1
 
   abbrev kept : Values
-  kept = (values_there p u core place work.piece state.Out at).0
+  kept = (values_there p u core place work.piece (as_placed at)).0
 
   abbrev kept_is : AreValuesAt p place kept
-  kept_is = (values_there p u core place work.piece state.Out at).1
+  kept_is = (values_there p u core place work.piece (as_placed at)).1
 
   over : IsWorkOver p.pieces work.piece txn kept own.1.cells u.current work
   over = of_own p u core place work at txn txn_is kept kept_is own.1.cells own.1.named own
 
   pub handed_within : AreWithin u.tables writes
-  handed_within = work_within p u core place work.piece state.Out at txn txn_is kept kept_is own.1.cells own.1.named work over
-      (out_preds p u core place work at txn txn_is kept kept_is) refl writes outs note value
+  handed_within = work_within p u core place work.piece (as_placed at) txn txn_is kept kept_is own.1.cells own.1.named work over
+      (out_preds p u core place work at txn txn_is kept kept_is) (placed.finished_now (job_of p u) p core.progress place work.piece state.Out at) writes outs note value
 
   handed_result : IsResult (core_of p u) work.piece writes outs note
-  handed_result = work_result p u core place work.piece state.Out at txn txn_is kept kept_is own.1.cells own.1.named work over
-      (out_preds p u core place work at txn txn_is kept kept_is) refl writes outs note value
+  handed_result = work_result p u core place work.piece (as_placed at) txn txn_is kept kept_is own.1.cells own.1.named work over
+      (out_preds p u core place work at txn txn_is kept kept_is) (placed.finished_now (job_of p u) p core.progress place work.piece state.Out at) writes outs note value
 
   module _ (kept_now : Values) (leaves : IsKeptAfter p place work.piece outs kept_now) (new : Progress) (to : IsFinishedAt p place work.piece kept_now note new)
       (order : IsOrderAfter (λ sched. with_state sched work.piece state.Finished) p place.at) (after : Undoable) (undo : after ≡ record u { current = written u.current writes }) where
@@ -85,12 +87,12 @@ module _ (p : Progress) (u : Undoable) (core : IsCore p u) (place : Place) (piec
     (order : IsOrderAfter (λ sched. with_state sched piece state.Finished) p place.at) (after : Undoable) (undo : after ≡ record u { current = written u.current writes }) where
   pub ran_core : IsCore new after
   ran_core =
-      let txn = txn_there p u core place piece state.Waiting at in
-      let kept = values_there p u core place piece state.Waiting at in
+      let txn = txn_there p u core place piece (as_placed at) in
+      let kept = values_there p u core place piece (as_placed at) in
       end_core p u core place piece state.Waiting at refl (ran_step p u core piece ready) txn.0 txn.1 kept.0 kept.1 writes outs note result kept_now leaves new to order after undo
 
   pub ran_is : core_of new after ≡ with_finished (core_of p u) piece
   ran_is =
-      let txn = txn_there p u core place piece state.Waiting at in
-      let kept = values_there p u core place piece state.Waiting at in
+      let txn = txn_there p u core place piece (as_placed at) in
+      let kept = values_there p u core place piece (as_placed at) in
       end_is p u core place piece state.Waiting at refl (ran_step p u core piece ready) txn.0 txn.1 kept.0 kept.1 writes outs note result kept_now leaves new to order after undo

@@ -11,6 +11,7 @@ use Rattle.pac_ops.specs.declared.transaction.Txn.{Txn}
 use Rattle.pac_ops.specs.Notes.{least}
 use Rattle.pac_sched.specs.declared.state.PieceState.{PieceState}
 use Rattle.pac_sched.specs.Schedules.{Schedule, is_finished, is_out}
+use Rattle.pac_sets.specs.declared.set_id.SetId.{SetId}
 use Rattle.pac_sets.specs.SetOrder.{set_cmp}
 use Rattle.pac_sets.specs.Sets.{IsOpenSet, with_kept_at}
 use Rattle.pac_undo.specs.Undo.{Undoable}
@@ -19,17 +20,17 @@ use Rattle.pac_commute.specs.Machine.{Invariant}
 use Rattle.pac_core.specs.declared.loaded.LoadedBatch.{LoadedBatch}
 use Rattle.pac_core.specs.declared.place.Place.{Place}
 use Rattle.pac_core.specs.declared.progress.Progress.{Progress}
+use Rattle.pac_core.specs.declared.stage.SetStage.{SetStage}
 use Rattle.pac_core.specs.declared.stage.SetStage.TheVariants.{Open}
 use Rattle.pac_core.specs.Inputs.{PassesOn}
 use Rattle.pac_core.specs.Links.{AreStages, IsCore, KeepsBatch, KeepsInputs, KeepsProgress, KeepsValues, ReadyFrom, core_of, job_of, pieces_marked, replay_so_far, set_ids}
-use Rattle.pac_core.specs.Moves.{AreInBlocks, AreValuesKept, IsFinishedAt, IsFinishedTo, IsMovedTo, IsOrderAfter, MayFinish, StandsOpen, after_finish, keeps_now, keeps_now_at}
+use Rattle.pac_core.specs.Moves.{AreInBlocks, AreValuesKept, IsFinishedAt, IsFinishedTo, IsFirstFinished, IsMovedTo, IsOrderAfter, MayFinish, MayFinishFirst, StandsOpen, after_finish, after_first, finished_in, keeps_now, keeps_now_at}
 use Rattle.pac_core.specs.Places.{AreValuesAt, IsPieceAt, IsTxnAt}
 use Rattle.pac_core.specs.Replay.{Replay, left, machine_of, present_of}
 use Rattle.pac_core.specs.Results.{HasGiven, HasKept, HasLeft}
 use Rattle.pac_core.specs.Values.{GivesTo}
 use Rattle.pac_core.proofs.CoreLoads.{goes_on}
 use Rattle.pac_core.proofs.Finding.{leaves_of}
-use Rattle.pac_core.proofs.FinishedPiece.{finished_in}
 use Rattle.pac_core.proofs.Lists.{set_same}
 use Rattle.pac_core.proofs.MayFinishes.{set_twice}
 use Rattle.pac_core.proofs.NextReady.{from_same}
@@ -122,13 +123,13 @@ module _ (p q : Progress) (place : Place) (piece : PieceId) (now : Values) (valu
         blocks = subst AreInBlocks (sym rest) may.blocks;
       }
 
-  -- the piece that is finished then is finished with these values
-  pub finished_over : (note : Option Note) (new : Progress) → IsFinishedAt q place piece now note new → IsFinishedAt p place piece now note new
-  finished_over note new to set opening there own =
-      let is : IsFinishedTo q place.at set opening piece place.index now note new = to set opening (ap (λ (x : Progress). slice_get x.sets.sets place.at) rest ∙ there) own in
+  -- what is finished then is finished with these values
+  to_over : (set : SetId) (after : Option SetStage) → set.batch ≡ place.batch → (note : Option Note) (new : Progress) → IsFinishedTo q place.at set after place.index now note new
+      → IsFinishedTo p place.at set after place.index now note new
+  to_over set after own note new is =
       record {
         pieces = is.pieces ∙ ap (λ (x : Progress). x.pieces) rest;
-        sets = is.sets ∙ ap (λ (x : Progress). record x.sets { sets = with_kept_at x.sets.sets place.at (after_finish (finished_in opening piece)) }) rest;
+        sets = is.sets ∙ ap (λ (x : Progress). record x.sets { sets = with_kept_at x.sets.sets place.at after }) rest;
         note_is = is.note_is ∙ ap (λ (x : Progress). least x.note note) rest;
         first = is.first ∙ ap (λ (x : Progress). x.first) rest;
         next = is.next ∙ ap (λ (x : Progress). x.next) rest;
@@ -151,6 +152,32 @@ module _ (p q : Progress) (place : Place) (piece : PieceId) (now : Values) (valu
       twice : (c : Bool) (l : List Values) → cond c (keeps_now (cond c (keeps_now l place.index now) l) place.index now) (cond c (keeps_now l place.index now) l) ≡ cond c (keeps_now l place.index now) l
       twice true l = set_twice l place.index now now
       twice false l = refl
+
+  -- a piece of an open set
+  pub finished_over : (note : Option Note) (new : Progress) → IsFinishedAt q place piece now note new → IsFinishedAt p place piece now note new
+  finished_over note new to set opening there own =
+      to_over set (after_finish (finished_in opening piece)) own note new (to set opening (ap (λ (x : Progress). slice_get x.sets.sets place.at) rest ∙ there) own)
+
+  -- and the first of one that waits
+  pub first_over : (note : Option Note) (new : Progress) → IsFirstFinished q place now note new → IsFirstFinished p place now note new
+  first_over note new to set first others there own =
+      to_over set (after_first others) own note new (to set first others (ap (λ (x : Progress). slice_get x.sets.sets place.at) rest ∙ there) own)
+
+  pub first_may_over : MayFinishFirst p place → MayFinishFirst q place
+  first_may_over may = record {
+    stands = record {
+      set = may.stands.set;
+      first = may.stands.first;
+      rest = may.stands.rest;
+      there = ap (λ (x : Progress). slice_get x.sets.sets place.at) rest ∙ may.stands.there;
+    };
+    loaded = stands.0;
+    loaded_there = stands.1;
+    counted = subst (λ (x : Progress). 0 < x.unfinished) (sym rest) may.counted;
+    opened = subst (λ (x : Progress). IsOpenSet x.sets.edges x.sets.sets place.at) (sym rest) may.opened;
+    ascend = subst (λ (x : Progress). T (is_sorted set_cmp x.sets.sets)) (sym rest) may.ascend;
+    blocks = subst AreInBlocks (sym rest) may.blocks;
+  }
 
   pub order_over : (change : Schedule → Schedule) → IsOrderAfter change q place.at → IsOrderAfter change p place.at
   order_over change order = subst (λ (x : Progress). IsOrderAfter change x place.at) rest order

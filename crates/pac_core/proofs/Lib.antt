@@ -14,7 +14,9 @@ pub mod Alike
 pub mod OneMark
 pub mod TakenOut
 pub mod OneLess
+pub mod FinishedMark
 pub mod FinishedOne
+pub mod FinishedFirst
 pub mod CountPieces
 pub mod LoadedMore
 pub mod Copies
@@ -25,8 +27,10 @@ pub mod BatchFits
 pub mod CellOrder
 pub mod TouchedCells
 pub mod NextReady
+pub mod NextFirst
 pub mod SeenSets
 pub mod PlacedPieces
+pub mod PlacedTxns
 pub mod ValuesKept
 pub mod OpeningLists
 pub mod TxnPlaces
@@ -38,6 +42,7 @@ pub mod SameCells
 pub mod EventFacts
 pub mod BackIn
 pub mod CoreMoves
+pub mod FirstMoves
 pub mod LoadingFacts
 pub mod CoreLoads
 pub mod ReclaimOrder

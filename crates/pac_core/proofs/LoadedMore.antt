@@ -47,7 +47,7 @@ use Rattle.pac_core.specs.Replay.{Replay, left, loaded_pieces, machine_of, prese
 use Rattle.pac_core.proofs.Alike.{invariant_is, present_is}
 use Rattle.pac_core.proofs.Lists.{at_map, at_mem, filter_alike, filter_of, mem_at}
 use Rattle.pac_core.proofs.Marks.{placed, set_is}
-use Rattle.pac_core.proofs.Ready.{SetAt, at_range, own_piece, set_at, txns}
+use Rattle.pac_core.proofs.Ready.{SetAt, at_range, own_piece, set_at, txns, waiting_mark}
 use Rattle.pac_core.proofs.SetFacts.{Stands, batch_at, piece_is, txn_there}
 use Rattle.pac_core.proofs.SetLists.{set_in, set_of_batch, txn_in}
 
@@ -214,6 +214,7 @@ module _ (job : Job) (p : Progress) (keeps : KeepsProgress job p) (batch : Batch
       ap (λ (n : ℕ). mark (kept_of (record { batch = n - 1; block = q.block }) sets') q) counted
       ∙ ap (λ (n : ℕ). mark (kept_of (record { batch = n; block = q.block }) sets') q) (omega arith)
       ∙ ap (λ o. mark o q) (kept_there sets' up (length p.sets.sets + set.0) (record { batch = k; block = q.block }) (Some (Waiting (set_of job.parts batch.first batch.txns q.block).txns)) (get_right p.sets.sets to.more set.0 ∙ set.1))
+      ∙ waiting_mark q.block (set_of job.parts batch.first batch.txns q.block).txns q.txn in_set
 
   -- ---- the replay
 
@@ -341,8 +342,8 @@ module _ (job : Job) (p : Progress) (keeps : KeepsProgress job p) (batch : Batch
           still (Open o) there is =
               let set = set_at job p keeps j id (Some (Open o)) there in
               let same : set.batch ≡ b = same_Some _ _ (sym set.batch_there ∙ batch_left id.batch b (old_batch_there j id (Some (Open o)) there) batch_there) in
-              subst (λ (x : Batch). IsOpened r' sets' id (set_of job.parts x.first x.txns id.block).txns o) same
-              (opened_still j id o set (subst (λ (x : Batch). IsOpened r p.sets.sets id (set_of job.parts x.first x.txns id.block).txns o) (sym same) is))
+              let was = keeps.stages j id (Open o) set.batch set.there set.batch_there in
+              subst (λ (x : Batch). IsStageOf r' sets' id (set_of job.parts x.first x.txns id.block).txns (Open o)) same (was.0, was.1, opened_still j id o set was.2)
       go (inr (i, n, there)) =
           let is = new_batch_there i id (Some stage) there in
           let number : id.batch ≡ k = ap (λ (x : Kept SetStage). x.0.batch) is.2 in
@@ -351,7 +352,11 @@ module _ (job : Job) (p : Progress) (keeps : KeepsProgress job p) (batch : Batch
           let stage_is : stage ≡ Waiting is.0.txns = same_Some _ _ (ap (λ (x : Kept SetStage). x.1) is.2) in
           let of_batch = set_of_batch job.parts batch.first batch.txns is.0 is.1 in
           subst (λ (x : SetStage). IsStageOf r' sets' id (set_of job.parts b.first b.txns id.block).txns x) (sym stage_is)
-          (ap (λ (s : PieceSet). s.txns) of_batch.1 ∙ ap (λ (n : ℕ). (set_of job.parts batch.first batch.txns n).txns) (sym block) ∙ ap (λ (x : Batch). (set_of job.parts x.first x.txns id.block).txns) (sym b_is))
+          (record {
+            before = [];
+            is = ap (λ (s : PieceSet). s.txns) of_batch.1 ∙ ap (λ (n : ℕ). (set_of job.parts batch.first batch.txns n).txns) (sym block) ∙ ap (λ (x : Batch). (set_of job.parts x.first x.txns id.block).txns) (sym b_is);
+            some = of_batch.2;
+          })
 
   -- an old batch that has an unfinished set had it before
   unfinished_before : (n : ℕ) → n < k → IsUnfinishedBatch sets' n → IsUnfinishedBatch p.sets.sets n

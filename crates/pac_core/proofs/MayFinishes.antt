@@ -23,7 +23,7 @@ use Rattle.pac_core.specs.declared.stage.OpenSet.{OpenSet}
 use Rattle.pac_core.specs.declared.stage.SetStage.{SetStage}
 use Rattle.pac_core.specs.declared.stage.SetStage.TheVariants.{Open}
 use Rattle.pac_core.specs.Links.{IsOpened, KeepsProgress, replay_so_far}
-use Rattle.pac_core.specs.Moves.{AreInBlocks, IsFinishedAt, IsFinishedTo, IsMovedTo, IsOrderAfter, MayFinish, after_finish}
+use Rattle.pac_core.specs.Moves.{AreInBlocks, IsFinishedAt, IsFinishedTo, IsMovedTo, IsOrderAfter, MayFinish, after_finish, finished_in}
 use Rattle.pac_core.specs.Places.{IsPieceAt}
 use Rattle.pac_core.specs.Replay.{left, loaded_pieces}
 use Rattle.pac_core.proofs.EndedSet.{blocks_still, open_still}
@@ -72,10 +72,17 @@ module _ (job : Job) (p : Progress) (keeps : KeepsProgress job p) where
   }
     where
       opened : (s : SetAt job p keeps at set (Some (Open opening))) → IsOpened (replay_so_far job p) p.sets.sets set (txns job p keeps at set (Some (Open opening)) s) opening
-      opened s = keeps.stages at set (Open opening) s.batch there s.batch_there
+      opened s = (keeps.stages at set (Open opening) s.batch s.there s.batch_there).2
 
-  in_blocks : AreInBlocks p
+  pub in_blocks : AreInBlocks p
   in_blocks j set there = subst (λ (parts : PlanParts). set.0.block < parts.blocks) keeps.parts (set_there job p keeps j set.0 set.1 there).inside
+
+  -- a piece that isn't finished is counted
+  pub counted_left : (piece : PieceId) → Mem piece (loaded_pieces (replay_so_far job p)) → among (replay_so_far job p).finished piece ≡ false → 0 < p.unfinished
+  counted_left piece mem unfinished =
+      let some = some_left (λ q. not (among (replay_so_far job p).finished q)) (loaded_pieces (replay_so_far job p)) piece mem (ap not unfinished) in
+      let count : p.unfinished ≡ left (replay_so_far job p) = keeps.unfinished in
+      subst (λ n. 0 < n) (sym count) some
 
   module _ (place : Place) (piece : PieceId) where
     room : (far : PieceState) (at : IsPieceAt p place piece far) → place.index < length at.txn.loaded.kept.items
@@ -85,11 +92,7 @@ module _ (job : Job) (p : Progress) (keeps : KeepsProgress job p) where
         omega (arith, inside, len)
 
     counted : (far : PieceState) (at : IsPieceAt p place piece far) → is_finished far ≡ false → 0 < p.unfinished
-    counted far at unfinished =
-        let some = some_left (λ q. not (among (replay_so_far job p).finished q)) (loaded_pieces (replay_so_far job p)) piece (placed.loaded_is job p keeps place piece far at)
-        (ap not (placed.finished_now job p keeps place piece far at ∙ unfinished)) in
-        let count : p.unfinished ≡ left (replay_so_far job p) = keeps.unfinished in
-        subst (λ n. 0 < n) (sym count) some
+    counted far at unfinished = counted_left piece (placed.loaded_is job p keeps place piece far at) (placed.finished_now job p keeps place piece far at ∙ unfinished)
 
     -- a piece that is out
     pub may_finish : IsPieceAt p place piece state.Out → MayFinish p place piece
@@ -156,7 +159,7 @@ module _ (job : Job) (p : Progress) (keeps : KeepsProgress job p) where
           twice : ◌≡◌ {A = OpenSet} (record { sched = with_state out_open.sched piece state.Finished; cells = out_open.cells }) end_open
           twice = ap (λ (s : Schedule). record { sched = s; cells = at.stands.opening.cells }) (state_twice at.stands.opening.sched piece state.Out state.Finished)
 
-          own_finished : at.stands.set.batch ≡ place.batch → IsFinishedTo p place.at at.stands.set at.stands.opening piece place.index kept note new
+          own_finished : at.stands.set.batch ≡ place.batch → IsFinishedTo p place.at at.stands.set (after_finish (finished_in at.stands.opening piece)) place.index kept note new
           own_finished own =
               let is = subst (λ (q : Progress). IsFinishedAt q place piece kept note new) out_is to at.stands.set out_open out_there own in
               record {
@@ -185,7 +188,7 @@ module _ (job : Job) (p : Progress) (keeps : KeepsProgress job p) where
           pub run_finished : IsFinishedAt p place piece kept note new
           run_finished set opening there own =
               let same = same_there set opening there in
-              subst (λ (x : SetId × OpenSet). x.0.batch ≡ place.batch → IsFinishedTo p place.at x.0 x.1 piece place.index kept note new) same own_finished own
+              subst (λ (x : SetId × OpenSet). x.0.batch ≡ place.batch → IsFinishedTo p place.at x.0 (after_finish (finished_in x.1 piece)) place.index kept note new) same own_finished own
 
           pub run_order : IsOrderAfter (λ sched. with_state sched piece state.Finished) p place.at
           run_order set opening there =

@@ -7,13 +7,14 @@ use Rattle.std.specs.Ordering.{nat_cmp, ordering_then}
 use Rattle.std.proofs.lemmas.Bool.Decides.{nat_tests}
 use Rattle.std.proofs.lemmas.Cmp.{ranked}
 use Rattle.std.proofs.lemmas.Option.{same_Some, slice_get-get_or}
+use Rattle.pac_base.specs.Members.{Mem}
 use Rattle.pac_base.proofs.TestLemmas.{same_number, unlike}
 use Rattle.pac_ops.specs.declared.piece.PieceId.{PieceId}
 use Rattle.pac_plan.specs.declared.parts.PlanParts.{PlanParts}
 use Rattle.pac_plan.specs.Worlds.{batch_of}
 use Rattle.pac_sched.specs.declared.state.Pick.{Pick}
 use Rattle.pac_sched.specs.declared.state.Pick.TheVariants.{Piece, NotReady, Done}
-use Rattle.pac_sched.specs.Schedules.{all_finished, pick, piece_is_ready, position_of}
+use Rattle.pac_sched.specs.Schedules.{all_finished, is_finished, pick, piece_is_ready, position_of}
 use Rattle.pac_sched.proofs.PickLemmas.{done_exactly, not_ready_exactly, picks_first, stands}
 use Rattle.pac_sets.specs.declared.set_id.SetId.{SetId}
 use Rattle.pac_sets.specs.SetOrder.{set_cmp}
@@ -21,19 +22,19 @@ use Rattle.pac_sets.specs.Sets.{IsFirstOpen, IsOpenSet, Kept}
 use Rattle.pac_sets.proofs.SetLemmas.{less_there}
 use Rattle.pac_commute.specs.HandOut.{comes_before}
 use Rattle.pac_commute.specs.Loads.{Job}
-use Rattle.pac_commute.specs.Machine.{IsReadyAt, Machine, world_at}
+use Rattle.pac_commute.specs.Machine.{IsReadyAt, Machine, among, world_at}
 use Rattle.pac_core.specs.declared.progress.Progress.{Progress}
 use Rattle.pac_core.specs.declared.stage.SetStage.{SetStage}
 use Rattle.pac_core.specs.declared.stage.SetStage.TheVariants.{Open}
-use Rattle.pac_core.specs.Links.{KeepsProgress, ReadyFrom, batches_of, piece_in, replay_so_far, set_ids, set_of_piece}
+use Rattle.pac_core.specs.Links.{KeepsProgress, ReadyFrom, batches_of, mark, piece_in, replay_so_far, set_ids, set_of_piece}
 use Rattle.pac_core.specs.Moves.{HasNoneReady, StandsOpen}
 use Rattle.pac_core.specs.Replay.{Replay, machine_of}
 use Rattle.pac_core.specs.Takes.{IsNextPiece}
 use Rattle.pac_core.proofs.Ascending.{rises_at}
 use Rattle.pac_core.proofs.KeptAt.{equal_or_not}
 use Rattle.pac_core.proofs.Lists.{at_map, at_mem, map_at, mem_at}
-use Rattle.pac_core.proofs.Marks.{Placed, placed, set_is}
-use Rattle.pac_core.proofs.Ready.{SetAt, open_of, placed_here, position_is, ready_there, rises, set_at, stands_set, there_ready, txns}
+use Rattle.pac_core.proofs.Marks.{Placed, finished_is, placed, set_is}
+use Rattle.pac_core.proofs.Ready.{SetAt, all_txns, any_mark, any_piece, open_of, placed_here, position_is, ready_there, rises, set_at, stands_set, there_ready, txns, unfinished_here}
 use Rattle.pac_core.proofs.SetFacts.{batch_at}
 
 -- ---- numbers
@@ -129,6 +130,49 @@ module _ (job : Job) (p : Progress) (keeps : KeepsProgress job p) where
       go (inr (inl e)) = omega (arith, e)
       go (inr (inr gt)) = omega (arith, gt)
 
+  -- a piece that isn't finished in the replay isn't by what is kept of its set
+  unfinished : (at : ℕ) (id : SetId) (kept : Option SetStage) (set : SetAt job p keeps at id kept) (t : ℕ) → Mem t (all_txns job p keeps at id kept set) → among r.finished (piece_in id.block t) ≡ false
+      → is_finished (mark kept (piece_in id.block t)) ≡ false
+  unfinished at id kept set t here e =
+      sym (finished_is job p keeps (piece_in id.block t) (any_piece job p keeps at id kept set t here) ∙ ap is_finished (any_mark job p keeps at id kept set t here)) ∙ e
+
+  -- of the pieces that are left of a set one comes before all others, where no set before it has a ready piece, and it has no ready one of a lesser transaction
+  pub comes_first : (at : ℕ) (id : SetId) (stage : SetStage) (set : SetAt job p keeps at id (Some stage)) (t : ℕ) → Mem t (txns job p keeps at id (Some stage) set) → ReadyFrom job p at
+      → ((q : PieceId) → IsReadyAt job m q → piece_in id.block q.txn ≡ q → Mem q.txn (txns job p keeps at id (Some stage) set) → t ≤ q.txn)
+      → (q : PieceId) → IsReadyAt job m q → comes_before (world_at job m) q (piece_in id.block t) ≡ false
+  comes_first at id stage set t mem ready_from least q q_ready =
+      ap (λ (k : ℕ). nat_lt k (batch_of (batches_of p) t) || (k == batch_of (batches_of p) t && (nat_lt q.block id.block || (q.block == id.block && nat_lt q.txn t)))) q_batch
+      ∙ ap (λ (k : ℕ). nat_lt (place.k + 1) k || (place.k + 1 == k && (nat_lt q.block id.block || (q.block == id.block && nat_lt q.txn t)))) own_batch
+      ∙ not_before (id.batch + 1) (place.k + 1) id.block q.block t q.txn (cases (three place.at at))
+    where
+      place : Placed job p keeps q
+      place = placed job p keeps q q_ready.0
+
+      there : slice_get p.sets.sets place.at ≡ Some (set_of_piece (batches_of p) q, place.kept)
+      there = place.there ∙ ap (λ (s : SetId). Some (s, place.kept)) (sym (set_is job p keeps q place))
+
+      q_batch : batch_of (batches_of p) q.txn ≡ place.k + 1
+      q_batch = batch_at job.parts job.first (batches_of p) keeps.machine.run_on q.txn place.k place.i place.stands
+
+      own_batch : batch_of (batches_of p) t ≡ id.batch + 1
+      own_batch = batch_at job.parts job.first (batches_of p) keeps.machine.run_on t id.batch (t - set.batch.first) (stands_set job p keeps at id (Some stage) set t mem)
+
+      cases : (place.at < at) ⊎ ((place.at ≡ at) ⊎ (at < place.at)) → (id.batch + 1 < place.k + 1) ⊎ (((id.batch + 1 ≡ place.k + 1) × (id.block < q.block)) ⊎ ((id.batch + 1 ≡ place.k + 1) × (id.block ≡ q.block) × (t ≤ q.txn)))
+      cases (inl lt) = let le = ready_from q place.at place.kept q_ready there in absurd (omega (arith, le, lt))
+      cases (inr (inr gt)) = later (set_less id (record { batch = place.k; block = q.block }) (less_there p.sets.sets keeps.ascend at place.at _ _ set.there place.there gt))
+        where
+          later : (id.batch < place.k) ⊎ ((id.batch ≡ place.k) × (id.block < q.block)) → (id.batch + 1 < place.k + 1) ⊎ (((id.batch + 1 ≡ place.k + 1) × (id.block < q.block)) ⊎ ((id.batch + 1 ≡ place.k + 1) × (id.block ≡ q.block) × (t ≤ q.txn)))
+          later (inl lt) = inl (omega (arith, lt))
+          later (inr (e, lt)) = inr (inl (omega (arith, e), lt))
+      cases (inr (inl e)) =
+          let here : id ≡ record { batch = place.k; block = q.block } = ap (λ (x : Kept SetStage). x.0) (same_Some _ _ (sym set.there ∙ ap (slice_get p.sets.sets) (sym e) ∙ place.there)) in
+          let batch : id.batch ≡ place.k = ap (λ (s : SetId). s.batch) here in
+          let block : id.block ≡ q.block = ap (λ (s : SetId). s.block) here in
+          let own : piece_in id.block q.txn ≡ q = λ k. record { txn = q.txn; block = block k } in
+          let in_all = placed_here job p keeps q place at id (Some stage) set batch block in
+          let left = unfinished_here job p keeps at id (Some stage) set q.txn in_all (unfinished at id (Some stage) set q.txn in_all (ap (among r.finished) own ∙ q_ready.2)) in
+          inr (inr (omega (arith, batch), block, least q q_ready own left))
+
   module _ (at : ℕ) (opened : StandsOpen p at) where
     abbrev set : SetAt job p keeps at opened.set (Some (Open opened.opening))
     set = set_at job p keeps at opened.set (Some (Open opened.opening)) opened.there
@@ -144,8 +188,9 @@ module _ (job : Job) (p : Progress) (keeps : KeepsProgress job p) where
         let same : opened.set ≡ set_of_piece (batches_of p) q = ap (λ (x : Kept SetStage). x.0) (same_Some _ _ (sym opened.there ∙ there)) in
         let id : opened.set ≡ record { batch = place.k; block = q.block } = same ∙ set_is job p keeps q place in
         let block : opened.set.block ≡ q.block = ap (λ (s : SetId). s.block) id in
-        let i = mem_at ts q.txn (placed_here job p keeps q place at opened.set (Some (Open opened.opening)) set (ap (λ (s : SetId). s.batch) id) block) in
-        let own : piece_in opened.set.block q.txn ≡ q = λ k. record { txn = q.txn; block = block k } in (
+        let own : piece_in opened.set.block q.txn ≡ q = λ k. record { txn = q.txn; block = block k } in
+        let here = placed_here job p keeps q place at opened.set (Some (Open opened.opening)) set (ap (λ (s : SetId). s.batch) id) block in
+        let i = mem_at ts q.txn (unfinished_here job p keeps at opened.set (Some (Open opened.opening)) set q.txn here (unfinished at opened.set (Some (Open opened.opening)) set q.txn here (ap (among r.finished) own ∙ ready.2))) in (
           i.0,
           i.1,
           own,
@@ -164,7 +209,7 @@ module _ (job : Job) (p : Progress) (keeps : KeepsProgress job p) where
             absurd (picks (pick opened.opening.sched) refl here.3)
           where
             left : all_finished opened.opening.sched ≡ false
-            left = (keeps.stages at opened.set (Open opened.opening) set.batch opened.there set.batch_there).left
+            left = (keeps.stages at opened.set (Open opened.opening) set.batch set.there set.batch_there).2.left
 
             picks : (x : Pick) → pick opened.opening.sched ≡ x → piece_is_ready opened.opening.sched q ≡ true → ⊥
             picks (Piece piece) is h = none opened.set opened.opening opened.there piece is
@@ -179,7 +224,7 @@ module _ (job : Job) (p : Progress) (keeps : KeepsProgress job p) where
         is_ready = (picks_first opened.opening.sched piece picked).0
 
         pieces : opened.opening.sched.pieces ≡ map (piece_in opened.set.block) ts
-        pieces = (keeps.stages at opened.set (Open opened.opening) set.batch opened.there set.batch_there).pieces
+        pieces = (keeps.stages at opened.set (Open opened.opening) set.batch set.there set.batch_there).2.pieces
 
         -- it stands among the pieces of the set
         stands_in : (i : ℕ) × (position_of opened.opening.sched piece ≡ Some i)
@@ -205,46 +250,24 @@ module _ (job : Job) (p : Progress) (keeps : KeepsProgress job p) where
         first : (q : PieceId) → IsReadyAt job m q → comes_before (world_at job m) q piece ≡ false
         first q q_ready =
             subst (λ (x : PieceId). comes_before (world_at job m) q x ≡ false) found.2
-            (ap (λ (k : ℕ). nat_lt k (batch_of (batches_of p) found.0) || (k == batch_of (batches_of p) found.0 && (nat_lt q.block opened.set.block || (q.block == opened.set.block && nat_lt q.txn found.0)))) q_batch
-            ∙ ap (λ (k : ℕ). nat_lt (place.k + 1) k || (place.k + 1 == k && (nat_lt q.block opened.set.block || (q.block == opened.set.block && nat_lt q.txn found.0)))) own_batch
-            ∙ not_before (opened.set.batch + 1) (place.k + 1) opened.set.block q.block found.0 q.txn (cases (three place.at at)))
+            (comes_first at opened.set (Open opened.opening) set found.0 (at_mem ts stands_in.0 found.0 found.1) ready_from least q q_ready)
           where
-            place : Placed job p keeps q
-            place = placed job p keeps q q_ready.0
-
-            there : slice_get p.sets.sets place.at ≡ Some (set_of_piece (batches_of p) q, place.kept)
-            there = place.there ∙ ap (λ (s : SetId). Some (s, place.kept)) (sym (set_is job p keeps q place))
-
-            q_batch : batch_of (batches_of p) q.txn ≡ place.k + 1
-            q_batch = batch_at job.parts job.first (batches_of p) keeps.machine.run_on q.txn place.k place.i place.stands
-
-            own_batch : batch_of (batches_of p) found.0 ≡ opened.set.batch + 1
-            own_batch = batch_at job.parts job.first (batches_of p) keeps.machine.run_on found.0 opened.set.batch (found.0 - set.batch.first)
-                (stands_set job p keeps at opened.set (Some (Open opened.opening)) set found.0 (at_mem ts stands_in.0 found.0 found.1))
-
-            cases : (place.at < at) ⊎ ((place.at ≡ at) ⊎ (at < place.at)) → (opened.set.batch + 1 < place.k + 1) ⊎ (((opened.set.batch + 1 ≡ place.k + 1) × (opened.set.block < q.block)) ⊎ ((opened.set.batch + 1 ≡ place.k + 1) × (opened.set.block ≡ q.block) × (found.0 ≤ q.txn)))
-            cases (inl lt) = let le = ready_from q place.at place.kept q_ready there in absurd (omega (arith, le, lt))
-            cases (inr (inr gt)) = later (set_less opened.set (record { batch = place.k; block = q.block }) (less_there p.sets.sets keeps.ascend at place.at _ _ opened.there place.there gt))
+            least : (q : PieceId) → IsReadyAt job m q → piece_in opened.set.block q.txn ≡ q → Mem q.txn ts → found.0 ≤ q.txn
+            least q q_ready own mem = go (three j.0 stands_in.0)
               where
-                later : (opened.set.batch < place.k) ⊎ ((opened.set.batch ≡ place.k) × (opened.set.block < q.block)) → (opened.set.batch + 1 < place.k + 1) ⊎ (((opened.set.batch + 1 ≡ place.k + 1) × (opened.set.block < q.block)) ⊎ ((opened.set.batch + 1 ≡ place.k + 1) × (opened.set.block ≡ q.block) × (found.0 ≤ q.txn)))
-                later (inl lt) = inl (omega (arith, lt))
-                later (inr (e, lt)) = inr (inl (omega (arith, e), lt))
-            cases (inr (inl e)) =
-                let here = ready_here q place.kept q_ready (ap (slice_get p.sets.sets) (sym e) ∙ there) in
-                let id : opened.set ≡ record { batch = place.k; block = q.block } = ap (λ (x : Kept SetStage). x.0) (same_Some _ _ (sym opened.there ∙ ap (slice_get p.sets.sets) (sym e) ∙ place.there)) in
-                let batch : opened.set.batch ≡ place.k = ap (λ (s : SetId). s.batch) id in
-                inr (inr (omega (arith, batch), ap (λ (s : SetId). s.block) id, in_order here.0 here.1 here.2 here.3))
-              where
-                in_order : (j : ℕ) → slice_get ts j ≡ Some q.txn → piece_in opened.set.block q.txn ≡ q → piece_is_ready opened.opening.sched q ≡ true → found.0 ≤ q.txn
-                in_order j at_j own h = go (three j stands_in.0)
-                  where
-                    position_q : position_of opened.opening.sched q ≡ Some j
-                    position_q = ap (position_of opened.opening.sched) (sym own) ∙ position_is job p keeps at opened.set opened.opening set j q.txn at_j
+                j : (k : ℕ) × (slice_get ts k ≡ Some q.txn)
+                j = mem_at ts q.txn mem
 
-                    go : (j < stands_in.0) ⊎ ((j ≡ stands_in.0) ⊎ (stands_in.0 < j)) → found.0 ≤ q.txn
-                    go (inl lt) = absurd (true≢false (sym h ∙ (picks_first opened.opening.sched piece picked).1 q stands_in.0 j stands_in.1 position_q lt))
-                    go (inr (inl same)) = let t : found.0 ≡ q.txn = same_Some _ _ (sym found.1 ∙ ap (slice_get ts) (sym same) ∙ at_j) in omega (arith, t)
-                    go (inr (inr gt)) = let lt = rises_at ts (rises job p keeps at opened.set (Some (Open opened.opening)) set) stands_in.0 j found.0 q.txn found.1 at_j gt in omega (arith, lt)
+                is_ready_too : piece_is_ready opened.opening.sched q ≡ true
+                is_ready_too = ap (piece_is_ready opened.opening.sched) (sym own) ∙ there_ready job p keeps at opened.set opened.opening set j.0 q.txn j.1 (subst (IsReadyAt job m) (sym own) q_ready)
+
+                position_q : position_of opened.opening.sched q ≡ Some j.0
+                position_q = ap (position_of opened.opening.sched) (sym own) ∙ position_is job p keeps at opened.set opened.opening set j.0 q.txn j.1
+
+                go : (j.0 < stands_in.0) ⊎ ((j.0 ≡ stands_in.0) ⊎ (stands_in.0 < j.0)) → found.0 ≤ q.txn
+                go (inl lt) = absurd (true≢false (sym is_ready_too ∙ (picks_first opened.opening.sched piece picked).1 q stands_in.0 j.0 stands_in.1 position_q lt))
+                go (inr (inl same)) = let t : found.0 ≡ q.txn = same_Some _ _ (sym found.1 ∙ ap (slice_get ts) (sym same) ∙ j.1) in omega (arith, t)
+                go (inr (inr gt)) = let lt = rises_at ts (rises job p keeps at opened.set (Some (Open opened.opening)) set) stands_in.0 j.0 found.0 q.txn found.1 j.1 gt in omega (arith, lt)
 
 -- what is looked at stays so where a set is opened
 pub from_same : (job : Job) (p new : Progress) (keeps : KeepsProgress job p) (keeps_new : KeepsProgress job new) → replay_so_far job new ≡ replay_so_far job p → (at : ℕ) → ReadyFrom job p at → ReadyFrom job new at

@@ -95,7 +95,7 @@ module _ (job : Job) (p : Progress) (keeps : KeepsProgress job p) (at : ℕ) (id
       others differ x y ex ey (inl b) (inl c) =
           let same : set_of_piece (batches_of p) q ≡ id = λ k. record { batch = (sym ex ∙ b) k; block = (sym ey ∙ c) k } in
           ap (λ s. mark (kept_of s sets_after) q) same ∙ ap (λ k. mark k q) changed
-          ∙ ap (λ o. unwrap_or o state.Waiting) (other_state opening.sched q0 i place_is old new was q differ)
+          ∙ ap (λ o. unwrap_or o state.Finished) (other_state opening.sched q0 i place_is old new was q differ)
           ∙ sym (ap (λ s. mark (kept_of s p.sets.sets) q) same ∙ ap (λ k. mark k q) (kept_there p.sets.sets keeps.ascend at id (Some (Open opening)) set.there))
       others differ x y ex ey (inl b) (inr c) = stays (λ h. c (ey ∙ ap (λ (x : SetId). x.block) h))
       others differ x y ex ey (inr b) c = stays (λ h. b (ex ∙ ap (λ (x : SetId). x.batch) h))
@@ -105,7 +105,7 @@ module _ (job : Job) (p : Progress) (keeps : KeepsProgress job p) (at : ℕ) (id
           let own : q0 ≡ q = same_piece q0 q same in
           ap (mark_in (batches_of p) sets_after) (sym own)
           ∙ ap (λ s. mark (kept_of s sets_after) q0) set_is_id ∙ ap (λ k. mark k q0) changed
-          ∙ ap (λ o. unwrap_or o state.Waiting) (own_state opening.sched q0 i place_is old new was)
+          ∙ ap (λ o. unwrap_or o state.Finished) (own_state opening.sched q0 i place_is old new was)
       go false differ = others differ (set_of_piece (batches_of p) q).batch q.block refl refl (equal_or_not (set_of_piece (batches_of p) q).batch id.batch) (equal_or_not q.block id.block)
 
   -- the pieces that pass a test

@@ -1,13 +1,14 @@
 -- The pieces of an open set may be opened, and that keeps all.
-use Rattle.std.proofs.Common.{◌≡◌, ℕ, suc, ◌+◌, ◌-◌, ◌<◌, Bool, true, false, cond, List, [], ◌∷◌, Some, None, refl, sym, ap, subst, ◌∙◌}
+use Rattle.std.proofs.Common.{◌≡◌, ℕ, suc, ◌+◌, ◌-◌, ◌<◌, Bool, true, false, cond, List, [], ◌∷◌, length, get_or, Some, None, refl, sym, ap, subst, ◌∙◌}
 use Rattle.std.specs.Prelude.{slice_get}
 use Rattle.std.specs.List.{AllByRecursion}
-use Rattle.std.proofs.lemmas.Option.{same_Some, slice_get_within}
+use Rattle.std.proofs.lemmas.Option.{same_Some, slice_get_read, slice_get_within}
 use Rattle.pac_ops.specs.declared.transaction.Txn.{Txn}
 use Rattle.pac_plan.specs.declared.parts.PlanParts.{PlanParts}
 use Rattle.pac_plan.specs.Codes.{HasTxnInputs, TxnFitsPlan}
 use Rattle.pac_plan.specs.Worlds.{txn_at}
 use Rattle.pac_batch.specs.Sets.{set_of}
+use Rattle.pac_sets.specs.declared.set_id.SetId.{SetId}
 use Rattle.pac_sets.specs.Sets.{IsOpenSet, Kept, WaitsForNothing}
 use Rattle.pac_commute.specs.Loads.{Job}
 use Rattle.pac_commute.specs.PlanLaws.{txns_of}
@@ -17,7 +18,7 @@ use Rattle.pac_core.specs.declared.stage.OpenSet.{OpenSet}
 use Rattle.pac_core.specs.declared.stage.SetStage.{SetStage}
 use Rattle.pac_core.specs.declared.stage.SetStage.TheVariants.{Waiting}
 use Rattle.pac_core.specs.Inputs.{FindsInputs}
-use Rattle.pac_core.specs.Links.{KeepsBatch, KeepsProgress, batches_of, replay_so_far}
+use Rattle.pac_core.specs.Links.{IsRest, KeepsBatch, KeepsProgress, batches_of, replay_so_far}
 use Rattle.pac_core.specs.Moves.{HasAllInputs, IsOpeningOf, opened_at}
 use Rattle.pac_core.specs.Replay.{present_of}
 use Rattle.pac_core.proofs.Lists.{at_map, map_at}
@@ -25,6 +26,19 @@ use Rattle.pac_core.proofs.Marks.{fits_plan}
 use Rattle.pac_core.proofs.Opens.{has_txn_inputs, opens_keep, same_replay}
 use Rattle.pac_core.proofs.Ready.{set_at}
 use Rattle.pac_core.proofs.SetFacts.{Stands, txn_there}
+
+-- what was read is the open set
+module _ (p : Progress) (at : ℕ) (opened : IsOpenSet p.sets.edges p.sets.sets at) (read : Kept SetStage) (here : slice_get p.sets.sets at ≡ Some read) where
+  pub set_read : opened.set ≡ read.0
+  set_read = ap (λ (x : Kept SetStage). x.0) (same_Some _ _ (sym opened.there ∙ here))
+
+  pub stage_read : (stage : SetStage) → read.1 ≡ Some stage → opened.kept ≡ stage
+  stage_read stage e = same_Some _ _ (ap (λ (x : Kept SetStage). x.1) (same_Some _ _ (sym opened.there ∙ here)) ∙ e)
+
+  pub batch_read : (loaded read_loaded : LoadedBatch) → slice_get p.batches.items opened.set.batch ≡ Some loaded → read_loaded ≡ get_or p.batches.items read.0.batch read_loaded → slice_get p.batches.items opened.set.batch ≡ Some read_loaded
+  batch_read loaded read_loaded there is =
+      slice_get_read p.batches.items (length p.batches.items) opened.set.batch read_loaded refl (slice_get_within p.batches.items opened.set.batch loaded there)
+      (is ∙ ap (λ (s : SetId). get_or p.batches.items s.batch read_loaded) (sym set_read))
 
 -- what holds of each item holds of all
 pub all_by : {A : Type 0} (P : A → Type 0) (xs : List A) → ((i : ℕ) (x : A) → slice_get xs i ≡ Some x → P x) → AllByRecursion P xs
@@ -70,8 +84,8 @@ module _ (job : Job) (p : Progress) (keeps : KeepsProgress job p) where
       batch_there : slice_get (batches_of p) opened.set.batch ≡ Some loaded.batch
       batch_there = at_map (λ (l : LoadedBatch). l.batch) p.batches.items opened.set.batch loaded there
 
-      pub txns_are : (txns : List ℕ) → opened.kept ≡ Waiting txns → txns ≡ (set_of p.pieces loaded.batch.first loaded.batch.txns opened.set.block).txns
-      txns_are txns e = subst (λ (parts : PlanParts). txns ≡ (set_of parts loaded.batch.first loaded.batch.txns opened.set.block).txns) keeps.parts
+      pub txns_are : (txns : List ℕ) → opened.kept ≡ Waiting txns → IsRest (set_of p.pieces loaded.batch.first loaded.batch.txns opened.set.block).txns txns
+      txns_are txns e = subst (λ (parts : PlanParts). IsRest (set_of parts loaded.batch.first loaded.batch.txns opened.set.block).txns txns) keeps.parts
           (keeps.stages at opened.set (Waiting txns) loaded.batch (opened.there ∙ ap (λ (s : SetStage). Some (opened.set, Some s)) e) batch_there)
 
       pub inputs_are : HasAllInputs p.pieces loaded opened.set.block

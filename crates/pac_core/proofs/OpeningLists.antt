@@ -5,6 +5,7 @@ use Rattle.std.specs.List.{range_with_len}
 use Rattle.std.proofs.lemmas.List.{length-append, map-append, take_more}
 use Rattle.std.proofs.lemmas.List.Elements.{Contains-get_or}
 use Rattle.std.proofs.lemmas.Option.{same_Some, slice_get-get_or, slice_get_within}
+use Rattle.pac_base.specs.Members.{Mem}
 use Rattle.pac_ops.specs.declared.transaction.Txn.{Txn}
 use Rattle.pac_plan.specs.declared.access.Access.{Access}
 use Rattle.pac_plan.specs.declared.parts.PlanParts.{PlanParts}
@@ -14,7 +15,8 @@ use Rattle.pac_batch.specs.Sets.{has_piece, set_of}
 use Rattle.pac_sched.specs.Schedules.{ArePairsBelow}
 use Rattle.pac_core.specs.declared.cells.PieceCells.{PieceCells}
 use Rattle.pac_core.specs.Cells.{AreOf, HasCellsOf}
-use Rattle.pac_core.proofs.Lists.{at_mem}
+use Rattle.pac_core.specs.Links.{IsRest}
+use Rattle.pac_core.proofs.Lists.{at_mem, mem_second}
 use Rattle.pac_core.proofs.SetLists.{txn_of_set}
 
 pub map_more : {A B : Type 0} (f : A → B) (xs : List A) (i : ℕ) (d : A) → i < length xs → map f (take (i + 1) xs) ≡ map f (take i xs) ++ f (get_or xs i d) ∷ []
@@ -57,19 +59,20 @@ range_len : (n k : ℕ) → length (range_with_len n k) ≡ k
 range_len n zero = refl
 range_len n (suc k) = ap suc (range_len (n + 1) k)
 
-module _ (parts : PlanParts) (first : ℕ) (txns : List Txn) (block : ℕ) (ts : List ℕ) (are : ts ≡ (set_of parts first txns block).txns) where
+module _ (parts : PlanParts) (first : ℕ) (txns : List Txn) (block : ℕ) (ts : List ℕ) (are : IsRest (set_of parts first txns block).txns ts) where
   -- they are no more than the batch has
   pub set_fewer : length ts ≤ length txns
   set_fewer =
       let le = filter_fewer (λ t. has_piece parts block (txn_at first txns t)) (range_with_len first (length txns)) in
       let len = range_len first (length txns) in
-      let same : length ts ≡ length (set_of parts first txns block).txns = ap length are in
-      omega (arith, le, len, same)
+      let both : length (are.before ++ ts) ≡ length are.before + length ts = length-append are.before ts in
+      let same : length (are.before ++ ts) ≡ length (set_of parts first txns block).txns = ap length are.is in
+      omega (arith, le, len, both, same)
 
   -- and are of it
   pub set_range : (i : ℕ) → i < length ts → (first ≤ get_or ts i 0) × (get_or ts i 0 < first + length txns)
   set_range i lt =
-      let in_set = txn_of_set parts first txns block (get_or ts i 0) (at_mem (set_of parts first txns block).txns i (get_or ts i 0) (ap (λ l. slice_get l i) (sym are) ∙ slice_get-get_or ts i 0 lt)) in
+      let in_set = txn_of_set parts first txns block (get_or ts i 0) (subst (λ (l : List ℕ). Mem (get_or ts i 0) l) are.is (mem_second (get_or ts i 0) are.before ts (at_mem ts i (get_or ts i 0) (slice_get-get_or ts i 0 lt)))) in
       (in_set.0, in_set.1)
 
 -- next pairs are of the pieces

@@ -1,20 +1,20 @@
 -- Opening the pieces of a set changes nothing of the replay, and keeps all that is kept.
 use Rattle.std.proofs.Common.{◌≡◌, ◌⊎◌, ℕ, zero, suc, ◌+◌, ◌-◌, ◌<◌, ◌==◌, Bool, true, false, cond, not, ◌&&◌, List, [], ◌∷◌, map, length, Option, Some, None, refl, sym, ap, subst, ◌∙◌, true≢false, inl, inr, arith, replicate}
-use Rattle.std.specs.Prelude.{slice_get, unwrap_or}
-use Rattle.std.specs.List.{list_all}
+use Rattle.std.specs.Prelude.{slice_get, position, unwrap_or}
+use Rattle.std.specs.List.{list_all, list_any}
 use Rattle.std.specs.FinMap.{empty, get}
 use Rattle.std.proofs.lemmas.List.{length-map, length-replicate}
-use Rattle.std.proofs.lemmas.Option.{same_Some}
+use Rattle.std.proofs.lemmas.Option.{same_Some, slice_get-get_or, slice_get_within}
 use Rattle.pac_base.specs.Members.{Mem}
 use Rattle.pac_base.proofs.ItemLemmas.{item_at}
-use Rattle.pac_base.proofs.TestLemmas.{and_left, and_right, and_both, same_number}
+use Rattle.pac_base.proofs.TestLemmas.{and_left, and_right, and_both, any_gives, any_mem, eq_self, same_number}
 use Rattle.pac_value.specs.Expressions.{Values}
 use Rattle.pac_ops.specs.declared.batch.Batch.{Batch}
 use Rattle.pac_ops.specs.declared.piece.PieceId.{PieceId}
 use Rattle.pac_ops.specs.declared.transaction.Txn.{Txn}
 use Rattle.pac_ops.specs.Effects.{defined_in, used_in}
 use Rattle.pac_plan.specs.declared.parts.PlanParts.{PlanParts}
-use Rattle.pac_plan.specs.Pieces.{HasInputs, InputsAre, access_of, ops, part}
+use Rattle.pac_plan.specs.Pieces.{HasInputs, InputsAre, access_of, is_piece, ops, part}
 use Rattle.pac_plan.specs.Worlds.{batch_of, txn_at, txn_block, txn_code}
 use Rattle.pac_plan.specs.Codes.{HasTxnInputs, piece_ops}
 use Rattle.pac_plan.proofs.WorldLemmas.{has-edge}
@@ -23,6 +23,7 @@ use Rattle.pac_batch.specs.Sets.{has_numbers, set_of}
 use Rattle.pac_sched.specs.declared.state.PieceState.{PieceState}
 use Rattle.pac_sched.specs.declared.state.PieceState.TheVariants as state
 use Rattle.pac_sched.specs.Schedules.{at_position, is_finished, is_out, is_waiting, position_of, some_passes}
+use Rattle.pac_sched.proofs.PickLemmas.{stands}
 use Rattle.pac_sets.specs.declared.set_id.SetId.{SetId}
 use Rattle.pac_sets.specs.Sets.{Kept, WaitsForNothing, kept_of, with_kept_at}
 use Rattle.pac_sets.proofs.SetLemmas.{kept_there}
@@ -39,14 +40,15 @@ use Rattle.pac_core.specs.declared.stage.SetStage.{SetStage}
 use Rattle.pac_core.specs.declared.stage.SetStage.TheVariants.{Waiting, Open}
 use Rattle.pac_core.specs.Cells.{HasCellsOf}
 use Rattle.pac_core.specs.Inputs.{FindsInputs}
-use Rattle.pac_core.specs.Links.{AreStages, IsOpened, IsStageOf, KeepsBatch, IsUnfinishedBatch, KeepsInputs, KeepsProgress, KeepsValues, batches_of, mark, mark_in, pieces_marked, piece_in, replay_so_far, set_of_piece}
+use Rattle.pac_core.specs.Links.{AreStages, IsOpened, IsRest, IsStageOf, KeepsBatch, IsUnfinishedBatch, KeepsInputs, KeepsProgress, KeepsValues, batches_of, mark, mark_in, pieces_marked, piece_in, replay_so_far, set_of_piece}
 use Rattle.pac_core.specs.Moves.{IsFreshlyOpen, access_over}
 use Rattle.pac_core.specs.Replay.{Replay, left, loaded_pieces, machine_of, present_of}
 use Rattle.pac_core.proofs.AccessInputs.{access_same}
 use Rattle.pac_core.proofs.KeptAt.{equal_or_not, get_changed, get_other, ids_stay, kept_changed, kept_stays, passes_still, still_up}
-use Rattle.pac_core.proofs.Lists.{at_map, filter_alike}
+use Rattle.pac_core.proofs.Ascending.{position_in}
+use Rattle.pac_core.proofs.Lists.{at_map, at_mem, filter_alike, map_at, mem_at}
 use Rattle.pac_core.proofs.Marks.{finished_is, placed, set_is}
-use Rattle.pac_core.proofs.Ready.{SetAt, set_at, stands_set, txns}
+use Rattle.pac_core.proofs.Ready.{SetAt, all_txns, rest_of, rises, set_at, stands_set, txns}
 use Rattle.pac_core.proofs.SetFacts.{Stands, batch_at, ops_at, txn_there}
 
 -- ---- the inputs of a set that waits for nothing
@@ -118,23 +120,57 @@ module _ (job : Job) (p : Progress) (keeps : KeepsProgress job p) (at : ℕ) (id
   same_batch = same_Some _ _ (sym (at_map (λ (l : LoadedBatch). l.batch) p.batches.items id.batch loaded loaded_there) ∙ set.batch_there)
 
   same_txns : waiting ≡ ts
-  same_txns = keeps.stages at id (Waiting waiting) set.batch there set.batch_there
+  same_txns = refl
+
+  rest : IsRest (all_txns job p keeps at id (Some (Waiting waiting)) set) waiting
+  rest = rest_of job p keeps at id (Waiting waiting) set
 
   abbrev pub new : Progress
   new = record p { sets = record p.sets { sets = with_kept_at p.sets.sets at (Some (Open opening)) } }
 
-  -- each piece of it waits, as before
-  waits_there : (q : PieceId) → mark (Some (Open opening)) q ≡ state.Waiting
-  waits_there q = go (position_of opening.sched q) refl
+  -- each piece of it waits that did, and each other one is finished
+  still_there : (q : PieceId) → q.block ≡ id.block → mark (Some (Open opening)) q ≡ mark (Some (Waiting waiting)) q
+  still_there q block = go (list_any (λ t. t == q.txn) waiting) refl (position_of opening.sched q) refl
     where
-      each : (n i : ℕ) → unwrap_or (slice_get (replicate n state.Waiting) i) state.Waiting ≡ state.Waiting
-      each zero i = refl
-      each (suc n) zero = refl
-      each (suc n) (suc i) = each n i
+      own : piece_in id.block q.txn ≡ q
+      own = λ k. record { txn = q.txn; block = sym block k }
 
-      go : (o : Option ℕ) → position_of opening.sched q ≡ o → mark (Some (Open opening)) q ≡ state.Waiting
-      go None e = ap (λ o. unwrap_or (at_position opening.sched.states o) state.Waiting) e
-      go (Some i) e = ap (λ o. unwrap_or (at_position opening.sched.states o) state.Waiting) e ∙ ap (λ (l : List PieceState). unwrap_or (slice_get l i) state.Waiting) fresh.states ∙ each (length waiting) i
+      each : (n i : ℕ) → i < n → unwrap_or (slice_get (replicate n state.Waiting) i) state.Finished ≡ state.Waiting
+      each zero i lt = absurd (omega (arith, lt))
+      each (suc n) zero lt = refl
+      each (suc n) (suc i) lt = each n i (omega (arith, lt))
+
+      -- what stands among the pieces is one of those that wait
+      among_these : (i : ℕ) → position_of opening.sched q ≡ Some i → slice_get waiting i ≡ Some q.txn
+      among_these i e =
+          let s = stands opening.sched q i e in
+          let found = map_at (piece_in id.block) waiting i q
+          (ap (λ ps. slice_get ps i) (sym fresh.pieces) ∙ slice_get-get_or opening.sched.pieces i q s.0 ∙ ap (λ x. Some x) s.1) in
+          found.1 ∙ ap (λ (x : PieceId). Some x.txn) found.2
+
+      -- and each of these stands there
+      position_there : Mem q.txn waiting → (i : ℕ) × (position_of opening.sched q ≡ Some i)
+      position_there mem =
+          let i = mem_at waiting q.txn mem in (
+            i.0,
+            ap (position_of opening.sched) (sym own) ∙ ap (λ ps. position (is_piece (piece_in id.block q.txn)) ps) fresh.pieces
+                ∙ position_in id.block waiting (rises job p keeps at id (Some (Waiting waiting)) set) i.0 q.txn i.1,
+          )
+
+      state_is : (i : ℕ) → position_of opening.sched q ≡ Some i → mark (Some (Open opening)) q ≡ state.Waiting
+      state_is i e =
+          ap (λ o. unwrap_or (at_position opening.sched.states o) state.Finished) e
+          ∙ ap (λ (l : List PieceState). unwrap_or (slice_get l i) state.Finished) fresh.states
+          ∙ each (length waiting) i (slice_get_within waiting i q.txn (among_these i e))
+
+      go : (b : Bool) → list_any (λ t. t == q.txn) waiting ≡ b → (o : Option ℕ) → position_of opening.sched q ≡ o → mark (Some (Open opening)) q ≡ mark (Some (Waiting waiting)) q
+      go true is (Some i) e = state_is i e ∙ sym (ap (λ b. cond b state.Waiting state.Finished) is)
+      go true is None e =
+          let t = any_gives (λ t. t == q.txn) waiting is in
+          let found = position_there (subst (λ (u : ℕ). Mem u waiting) (same_number t.0 q.txn t.2) t.1) in
+          let wrong : None ≡ Some found.0 = sym e ∙ found.1 in absurd cc
+      go false is (Some i) e = absurd (true≢false (sym (any_mem (λ t. t == q.txn) q.txn waiting (at_mem waiting i q.txn (among_these i e)) (eq_self q.txn)) ∙ is))
+      go false is None e = ap (λ o. unwrap_or (at_position opening.sched.states o) state.Finished) e ∙ sym (ap (λ b. cond b state.Waiting state.Finished) is)
 
   marks_stay : (q : PieceId) → mark_in (batches_of new) new.sets.sets q ≡ mark_in (batches_of p) p.sets.sets q
   marks_stay q = go (equal_or_not (set_of_piece (batches_of p) q).batch id.batch) (equal_or_not q.block id.block)
@@ -148,7 +184,7 @@ module _ (job : Job) (p : Progress) (keeps : KeepsProgress job p) (at : ℕ) (id
           let same : set_of_piece (batches_of p) q ≡ id = λ i. record { batch = b i; block = c i } in
           ap (λ s. mark (kept_of s new.sets.sets) q) same
           ∙ ap (λ k. mark k q) (kept_changed p.sets.sets keeps.ascend at id (Some (Waiting waiting)) (Some (Open opening)) there)
-          ∙ waits_there q
+          ∙ still_there q c
           ∙ sym (ap (λ s. mark (kept_of s p.sets.sets) q) same ∙ ap (λ k. mark k q) (kept_there p.sets.sets keeps.ascend at id (Some (Waiting waiting)) there))
       go (inl b) (inr c) = stays (λ e. c (ap (λ (x : SetId). x.block) e))
       go (inr b) c = stays (λ e. b (ap (λ (x : SetId). x.batch) e))
@@ -231,7 +267,7 @@ module _ (job : Job) (p : Progress) (keeps : KeepsProgress job p) (at : ℕ) (id
           each (suc n) (suc i) = each n i
 
       some_waiting : 0 < length waiting
-      some_waiting = subst (λ (l : List ℕ). 0 < length l) (sym same_txns) (more ts set.some)
+      some_waiting = more waiting rest.some
         where
           more : (us : List ℕ) → has_numbers us ≡ true → 0 < length us
           more [] e = absurd (true≢false (sym e))
@@ -251,21 +287,25 @@ module _ (job : Job) (p : Progress) (keeps : KeepsProgress job p) (at : ℕ) (id
           let stage_is : Open opening ≡ stage = same_Some _ _ (ap (λ (x : Kept SetStage). x.1) same) in
           let batch_is : set.batch ≡ batch = same_Some _ _ (sym set.batch_there ∙ ap (λ (x : SetId). slice_get (batches_of p) x.batch) id_is ∙ batch_there) in
           subst (λ (x : SetStage). IsStageOf (replay_so_far job p) new.sets.sets s (set_of job.parts batch.first batch.txns s.block).txns x) stage_is
-          (subst (λ (x : SetId). IsOpened (replay_so_far job p) new.sets.sets x (set_of job.parts batch.first batch.txns x.block).txns opening) id_is
-          (subst (λ (b : Batch). IsOpened (replay_so_far job p) new.sets.sets id (set_of job.parts b.first b.txns id.block).txns opening) batch_is opened_is))
+          (subst (λ (x : SetId). IsStageOf (replay_so_far job p) new.sets.sets x (set_of job.parts batch.first batch.txns x.block).txns (Open opening)) id_is
+          (subst (λ (b : Batch). IsStageOf (replay_so_far job p) new.sets.sets id (set_of job.parts b.first b.txns id.block).txns (Open opening)) batch_is (waiting, rest, opened_is)))
       go (inr differ) = still stage (keeps.stages j s stage batch (sym (get_other p.sets.sets at j (Some (Open opening)) differ) ∙ here) batch_there)
         where
           still : (x : SetStage) → IsStageOf (replay_so_far job p) p.sets.sets s (set_of job.parts batch.first batch.txns s.block).txns x → IsStageOf (replay_so_far job p) new.sets.sets s (set_of job.parts batch.first batch.txns s.block).txns x
           still (Waiting w) is = is
-          still (Open o) is = record {
-            pieces = is.pieces;
-            pairs = is.pairs;
-            order = is.order;
-            cells = is.cells;
-            passed = passes_still p.sets.sets keeps.ascend at id (Some (Waiting waiting)) (Some (Open opening)) there job.parts.edges s (λ other same none. let wrong : None ≡ Some (Waiting waiting) = sym none in absurd cc) is.passed;
-            left = is.left;
-            size = is.size;
-          }
+          still (Open o) is = (
+            is.0,
+            is.1,
+            record {
+              pieces = is.2.pieces;
+              pairs = is.2.pairs;
+              order = is.2.order;
+              cells = is.2.cells;
+              passed = passes_still p.sets.sets keeps.ascend at id (Some (Waiting waiting)) (Some (Open opening)) there job.parts.edges s (λ other same none. let wrong : None ≡ Some (Waiting waiting) = sym none in absurd cc) is.2.passed;
+              left = is.2.left;
+              size = is.2.size;
+            },
+          )
 
   unfinished_stays : (k : ℕ) → IsUnfinishedBatch new.sets.sets k → IsUnfinishedBatch p.sets.sets k
   unfinished_stays k (j, s, stage, here, batch) = go (equal_or_not j at)

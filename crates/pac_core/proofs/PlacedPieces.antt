@@ -58,7 +58,7 @@ module _ (job : Job) (p : Progress) (keeps : KeepsProgress job p) (place : Place
   ts = txns job p keeps place.at id (Some (Open opening)) set
 
   opened : IsOpened r p.sets.sets id ts opening
-  opened = keeps.stages place.at id (Open opening) set.batch at.stands.there set.batch_there
+  opened = (keeps.stages place.at id (Open opening) set.batch set.there set.batch_there).2
 
   pub batch_is : id.batch ≡ place.batch
   batch_is = ap (λ (s : SetId). s.batch) at.set_is
@@ -119,22 +119,6 @@ module _ (job : Job) (p : Progress) (keeps : KeepsProgress job p) (place : Place
     pub in_set_batch : slice_get set.batch.txns place.index ≡ Some txn
     in_set_batch = ap (λ (b : Batch). slice_get b.txns place.index) set_batch ∙ in_batch
 
-    pub there : txn_at job.first (txns_of (batches_of p)) piece.txn ≡ Some txn
-    there = txn_there job.parts job.first (batches_of p) keeps.machine.run_on piece.txn place.batch place.index stands_at ∙ in_batch
-
-    pub fits : TxnFitsPlan job.parts txn
-    fits = fits_plan job.parts txn (fits_there (txns_of (batches_of p)) (piece.txn - job.first) (found there))
-      where
-        found : txn_at job.first (txns_of (batches_of p)) piece.txn ≡ Some txn → slice_get (txns_of (batches_of p)) (piece.txn - job.first) ≡ Some txn
-        found e = go _ e
-          where
-            go : (b : Bool) → cond b None (slice_get (txns_of (batches_of p)) (piece.txn - job.first)) ≡ Some txn → slice_get (txns_of (batches_of p)) (piece.txn - job.first) ≡ Some txn
-            go true e = let wrong : None ≡ Some txn = e in absurd cc
-            go false e = e
-
-        fits_there : (l : List Txn) (i : ℕ) → slice_get (txns_of (batches_of p)) i ≡ Some txn → TxnIsOfPlan job.parts txn
-        fits_there l i e = keeps.machine.fit i txn e
-
     -- ---- the values that are kept
 
     module _ (kept : Values) (kept_is : AreValuesAt p place kept) where
@@ -143,24 +127,6 @@ module _ (job : Job) (p : Progress) (keeps : KeepsProgress job p) (place : Place
 
       pub before_is : slice_get loaded.kept.items place.index ≡ Some kept
       before_is = ap (λ (l : LoadedBatch). slice_get l.kept.items place.index) (same_Some _ _ (sym at.txn.there ∙ kept_is.1)) ∙ kept_is.2
-
-      pub inputs : KeepsInputs job.parts txn kept ((present_of r).envs piece.txn)
-      inputs = subst (λ (t : ℕ). KeepsInputs job.parts txn kept ((present_of r).envs t)) (sym at.txn.number) (values.each place.index txn kept in_batch before_is)
-
-      -- what a piece finds of them it finds of those of now
-      pub finds_now : (env : Values) → FindsInputs job.parts piece.block txn kept env → FindsInputs job.parts piece.block txn ((present_of r).envs piece.txn) env
-      finds_now env finds x = finds x ∙ go (is_found job.parts piece.block txn x) refl
-        where
-          go : (b : Bool) → is_found job.parts piece.block txn x ≡ b → cond b (get kept x) None ≡ cond b (get ((present_of r).envs piece.txn) x) None
-          go true f = inputs piece.block x block_inside f
-          go false f = refl
-
-      pub finds_kept : (env : Values) → FindsInputs job.parts piece.block txn ((present_of r).envs piece.txn) env → FindsInputs job.parts piece.block txn kept env
-      finds_kept env finds x = finds x ∙ go (is_found job.parts piece.block txn x) refl
-        where
-          go : (b : Bool) → is_found job.parts piece.block txn x ≡ b → cond b (get ((present_of r).envs piece.txn) x) None ≡ cond b (get kept x) None
-          go true f = sym (inputs piece.block x block_inside f)
-          go false f = refl
 
   -- there is room for them
   pub kept_len : length loaded.kept.items ≡ length loaded.batch.txns

@@ -2,13 +2,13 @@
 use Rattle.std.proofs.Common.{◌≡◌, ℕ, suc, ◌+◌, ◌-◌, ◌<◌, ◌≤◌, ◌==◌, nat_lt, Bool, true, false, cond, not, ◌&&◌, ◌||◌, List, [], ◌∷◌, map, length, get_or, Option, Some, None, refl, sym, ap, subst, ◌∙◌, true≢false, inl, inr, ⊎_elim, arith}
 use Rattle.std.specs.Prelude.{slice_get, Contains, position, unwrap_or}
 use Rattle.std.proofs.lemmas.Bool.Decides.{nat_tests}
-use Rattle.std.specs.List.{list_all}
+use Rattle.std.specs.List.{list_all, list_any}
 use Rattle.std.proofs.lemmas.List.{length-map}
 use Rattle.std.proofs.lemmas.List.Elements.{Contains-get_or}
-use Rattle.std.proofs.lemmas.Option.{same_Some, slice_get_within}
+use Rattle.std.proofs.lemmas.Option.{same_Some, slice_get-get_or, slice_get_within}
 use Rattle.pac_base.specs.Members.{Mem, Rises}
 use Rattle.pac_base.proofs.ItemLemmas.{item_at}
-use Rattle.pac_base.proofs.TestLemmas.{eq_self, or_cases, or_left, or_right, same_number}
+use Rattle.pac_base.proofs.TestLemmas.{any_gives, any_mem, eq_self, or_cases, or_left, or_right, same_number}
 use Rattle.pac_ops.specs.declared.batch.Batch.{Batch}
 use Rattle.pac_ops.specs.declared.piece.PieceId.{PieceId}
 use Rattle.pac_ops.specs.declared.transaction.Txn.{Txn}
@@ -24,7 +24,7 @@ use Rattle.pac_sched.specs.declared.state.PieceState.TheVariants as state
 use Rattle.pac_sched.specs.Schedules.{at_position, is_finished, is_finished_at, is_out, is_waiting, piece_is_ready, position_of, some_passes, state_of_piece}
 use Rattle.pac_sched.specs.Picks.{PredsDone}
 use Rattle.pac_sched.proofs.CallLemmas.{ready_waits}
-use Rattle.pac_sched.proofs.PickLemmas.{ready_by_pairs, start_preds}
+use Rattle.pac_sched.proofs.PickLemmas.{ready_by_pairs, stands, start_preds}
 use Rattle.pac_sets.specs.declared.set_id.SetId.{SetId}
 use Rattle.pac_sets.specs.Sets.{IsOpenSet, Kept, WaitsFor, WaitsForNothing, kept_of}
 use Rattle.pac_sets.proofs.SetLemmas.{kept_there, there_kept}
@@ -35,10 +35,10 @@ use Rattle.pac_core.specs.declared.progress.Progress.{Progress}
 use Rattle.pac_core.specs.declared.stage.OpenSet.{OpenSet}
 use Rattle.pac_core.specs.declared.stage.SetStage.{SetStage}
 use Rattle.pac_core.specs.declared.stage.SetStage.TheVariants.{Waiting, Open}
-use Rattle.pac_core.specs.Links.{IsOpened, KeepsProgress, batches_of, mark, mark_in, piece_in, replay_so_far}
+use Rattle.pac_core.specs.Links.{IsOpened, IsRest, KeepsProgress, batches_of, mark, mark_in, piece_in, replay_so_far}
 use Rattle.pac_core.specs.Replay.{Replay, loaded_pieces, machine_of}
-use Rattle.pac_core.proofs.Ascending.{order_of, position_in, rises_at, set_rises}
-use Rattle.pac_core.proofs.Lists.{at_map, at_mem, map_in, mem_at}
+use Rattle.pac_core.proofs.Ascending.{order_of, position_in, rises_at, rises_end, set_rises}
+use Rattle.pac_core.proofs.Lists.{at_map, at_mem, map_at, map_in, mem_at, mem_second}
 use Rattle.pac_core.proofs.Marks.{Placed, finished_is, has_is, mark_is, out_is, placed, set_is}
 use Rattle.pac_core.proofs.SetFacts.{batch_at, ByBatch, ByConflict, ByEdge, Precedes, Stands, by_precedes, piece_there, precedes_by, range-in, txn_there}
 use Rattle.pac_core.proofs.SetLists.{id_of, txn_of_set}
@@ -77,6 +77,19 @@ waits : (s : PieceState) → is_out s ≡ false → is_finished s ≡ false → 
 waits state.Waiting out finished = refl
 waits state.Out out finished = absurd (true≢false out)
 waits state.Finished out finished = absurd (true≢false finished)
+
+-- the piece of a transaction that is kept of a set that waits does too, and each other one is finished
+pub waiting_mark : (block : ℕ) (waiting : List ℕ) (t : ℕ) → Mem t waiting → mark (Some (Waiting waiting)) (piece_in block t) ≡ state.Waiting
+waiting_mark block waiting t mem = ap (λ b. cond b state.Waiting state.Finished) (any_mem (λ u. u == t) t waiting mem (eq_self t))
+
+pub unfinished_waits : (block : ℕ) (waiting : List ℕ) (t : ℕ) → is_finished (mark (Some (Waiting waiting)) (piece_in block t)) ≡ false → Mem t waiting
+unfinished_waits block waiting t e = go (list_any (λ u. u == t) waiting) refl e
+  where
+    go : (b : Bool) → list_any (λ u. u == t) waiting ≡ b → is_finished (cond b state.Waiting state.Finished) ≡ false → Mem t waiting
+    go true is f =
+        let u = any_gives (λ u. u == t) waiting is in
+        subst (λ (v : ℕ). Mem v waiting) (same_number u.0 t u.2) u.1
+    go false is f = absurd (true≢false f)
 
 module _ (job : Job) (p : Progress) (keeps : KeepsProgress job p) where
   abbrev r : Replay
@@ -121,56 +134,103 @@ module _ (job : Job) (p : Progress) (keeps : KeepsProgress job p) where
         some = is.some;
       }
 
+  -- the transactions that have pieces in it
+  abbrev pub all_txns : (at : ℕ) (id : SetId) (kept : Option SetStage) → SetAt at id kept → List ℕ
+  all_txns at id kept set = (set_of job.parts set.batch.first set.batch.txns id.block).txns
+
+  -- those of them of which something is kept
+  abbrev pub txns : (at : ℕ) (id : SetId) (kept : Option SetStage) → SetAt at id kept → List ℕ
+  txns at id None set = []
+  txns at id (Some (Waiting rest)) set = rest
+  txns at id (Some (Open opening)) set = (keeps.stages at id (Open opening) set.batch set.there set.batch_there).0
+
+  -- these are the last
+  pub rest_of : (at : ℕ) (id : SetId) (stage : SetStage) (set : SetAt at id (Some stage)) → IsRest (all_txns at id (Some stage) set) (txns at id (Some stage) set)
+  rest_of at id (Waiting rest) set = keeps.stages at id (Waiting rest) set.batch set.there set.batch_there
+  rest_of at id (Open opening) set = (keeps.stages at id (Open opening) set.batch set.there set.batch_there).1
+
+  pub in_all : (at : ℕ) (id : SetId) (kept : Option SetStage) (set : SetAt at id kept) (t : ℕ) → Mem t (txns at id kept set) → Mem t (all_txns at id kept set)
+  in_all at id None set t mem = absurd mem
+  in_all at id (Some stage) set t mem =
+      let rest = rest_of at id stage set in
+      subst (λ (ts : List ℕ). Mem t ts) rest.is (mem_second t rest.before (txns at id (Some stage) set) mem)
+
+  pub rises : (at : ℕ) (id : SetId) (kept : Option SetStage) (set : SetAt at id kept) → Rises (txns at id kept set)
+  rises at id None set = tt
+  rises at id (Some stage) set =
+      let rest = rest_of at id stage set in
+      rises_end rest.before (txns at id (Some stage) set) (subst Rises (sym rest.is) (set_rises job.parts set.batch.first set.batch.txns id.block))
+
   module _ (at : ℕ) (id : SetId) (kept : Option SetStage) (set : SetAt at id kept) where
-    abbrev pub txns : List ℕ
-    txns = (set_of job.parts set.batch.first set.batch.txns id.block).txns
-
-    pub rises : Rises txns
-    rises = set_rises job.parts set.batch.first set.batch.txns id.block
-
     -- a transaction of it stands in its batch
-    abbrev pub stands_set : (t : ℕ) → Mem t txns → Stands (batches_of p) t id.batch (t - set.batch.first)
-    stands_set t mem =
+    abbrev pub stands_all : (t : ℕ) → Mem t (all_txns at id kept set) → Stands (batches_of p) t id.batch (t - set.batch.first)
+    stands_all t mem =
         let in_batch = txn_of_set job.parts set.batch.first set.batch.txns id.block t mem in
         let least = in_batch.0 in
         let within = in_batch.1 in
         record { batch = set.batch; there = set.batch_there; inside = omega (arith, least, within); number = omega (arith, least) }
 
+    abbrev pub stands_set : (t : ℕ) → Mem t (txns at id kept set) → Stands (batches_of p) t id.batch (t - set.batch.first)
+    stands_set t mem = stands_all t (in_all at id kept set t mem)
+
     -- the batch of a piece of it is its own
-    pub same_batch : (t : ℕ) → Mem t txns → (place : Placed job p keeps (piece_in id.block t)) → place.k ≡ id.batch
+    pub same_batch : (t : ℕ) → Mem t (txns at id kept set) → (place : Placed job p keeps (piece_in id.block t)) → place.k ≡ id.batch
     same_batch t mem place =
         let own = batch_at job.parts job.first (batches_of p) keeps.machine.run_on t id.batch (t - set.batch.first) (stands_set t mem) in
         let other = batch_at job.parts job.first (batches_of p) keeps.machine.run_on t place.k place.i place.stands in
         omega (arith, own, other)
 
     -- a piece of it has its place here
-    pub own_piece : (t : ℕ) → Mem t txns → Mem (piece_in id.block t) (loaded_pieces r)
-    own_piece t mem = loaded_of id.batch set.batch set.batch_there id.block t set.inside mem
+    pub any_piece : (t : ℕ) → Mem t (all_txns at id kept set) → Mem (piece_in id.block t) (loaded_pieces r)
+    any_piece t mem = loaded_of id.batch set.batch set.batch_there id.block t set.inside mem
 
-    pub own_mark : (t : ℕ) → Mem t txns → mark_in (batches_of p) p.sets.sets (piece_in id.block t) ≡ mark kept (piece_in id.block t)
-    own_mark t mem =
+    pub own_piece : (t : ℕ) → Mem t (txns at id kept set) → Mem (piece_in id.block t) (loaded_pieces r)
+    own_piece t mem = any_piece t (in_all at id kept set t mem)
+
+    pub any_mark : (t : ℕ) → Mem t (all_txns at id kept set) → mark_in (batches_of p) p.sets.sets (piece_in id.block t) ≡ mark kept (piece_in id.block t)
+    any_mark t mem =
         ap (λ (k : ℕ). mark (kept_of (record { batch = k - 1; block = id.block }) p.sets.sets) (piece_in id.block t))
-        (batch_at job.parts job.first (batches_of p) keeps.machine.run_on t id.batch (t - set.batch.first) (stands_set t mem))
+        (batch_at job.parts job.first (batches_of p) keeps.machine.run_on t id.batch (t - set.batch.first) (stands_all t mem))
         ∙ ap (λ (k : ℕ). mark (kept_of (record { batch = k; block = id.block }) p.sets.sets) (piece_in id.block t)) (omega arith)
         ∙ ap (λ k. mark k (piece_in id.block t)) (kept_there p.sets.sets keeps.ascend at id kept set.there)
 
+    pub own_mark : (t : ℕ) → Mem t (txns at id kept set) → mark_in (batches_of p) p.sets.sets (piece_in id.block t) ≡ mark kept (piece_in id.block t)
+    own_mark t mem = any_mark t (in_all at id kept set t mem)
+
     -- where it stands among its pieces
-    own_index : (t : ℕ) → Mem t txns → (i : ℕ) × (slice_get txns i ≡ Some t)
-    own_index t mem = mem_at txns t mem
+    own_index : (t : ℕ) → Mem t (txns at id kept set) → (i : ℕ) × (slice_get (txns at id kept set) i ≡ Some t)
+    own_index t mem = mem_at (txns at id kept set) t mem
 
   -- a piece whose set is this one
   pub placed_here : (q : PieceId) (place : Placed job p keeps q) (at : ℕ) (id : SetId) (kept : Option SetStage) (set : SetAt at id kept) → id.batch ≡ place.k → id.block ≡ q.block
-      → Mem q.txn (txns at id kept set)
+      → Mem q.txn (all_txns at id kept set)
   placed_here q place at id kept set batch block =
       let same : place.stands.batch ≡ set.batch = same_Some _ _ (sym place.stands.there ∙ ap (slice_get (batches_of p)) (sym batch) ∙ set.batch_there) in
       subst (λ (b : ℕ). Mem q.txn (set_of job.parts set.batch.first set.batch.txns b).txns) (sym block)
       (subst (λ (x : Batch). Mem q.txn (set_of job.parts x.first x.txns q.block).txns) same place.in_set)
 
+  -- of a piece that isn't finished something is kept
+  pub unfinished_here : (at : ℕ) (id : SetId) (kept : Option SetStage) (set : SetAt at id kept) (t : ℕ) → Mem t (all_txns at id kept set) → is_finished (mark kept (piece_in id.block t)) ≡ false → Mem t (txns at id kept set)
+  unfinished_here at id None set t mem e = absurd (true≢false e)
+  unfinished_here at id (Some (Waiting waiting)) set t mem e = unfinished_waits id.block waiting t e
+  unfinished_here at id (Some (Open opening)) set t mem e = go (position_of opening.sched (piece_in id.block t)) refl
+    where
+      is : IsOpened r p.sets.sets id (txns at id (Some (Open opening)) set) opening
+      is = (keeps.stages at id (Open opening) set.batch set.there set.batch_there).2
+
+      go : (o : Option ℕ) → position_of opening.sched (piece_in id.block t) ≡ o → Mem t (txns at id (Some (Open opening)) set)
+      go None at_none = absurd (true≢false (ap (λ o. is_finished (unwrap_or (at_position opening.sched.states o) state.Finished)) (sym at_none) ∙ e))
+      go (Some i) at_i =
+          let s = stands opening.sched (piece_in id.block t) i at_i in
+          let found = map_at (piece_in id.block) (txns at id (Some (Open opening)) set) i (piece_in id.block t)
+          (ap (λ ps. slice_get ps i) (sym is.pieces) ∙ slice_get-get_or opening.sched.pieces i (piece_in id.block t) s.0 ∙ ap (λ x. Some x) s.1) in
+          at_mem (txns at id (Some (Open opening)) set) i t (found.1 ∙ ap (λ (q : PieceId). Some q.txn) found.2)
+
   -- ---- an open set
 
   module _ (at : ℕ) (id : SetId) (opening : OpenSet) (set : SetAt at id (Some (Open opening))) where
     opened : IsOpened r p.sets.sets id (txns at id (Some (Open opening)) set) opening
-    opened = keeps.stages at id (Open opening) set.batch set.there set.batch_there
+    opened = (keeps.stages at id (Open opening) set.batch set.there set.batch_there).2
 
     abbrev ts : List ℕ
     ts = txns at id (Some (Open opening)) set
@@ -199,7 +259,7 @@ module _ (job : Job) (p : Progress) (keeps : KeepsProgress job p) where
     state_at i t e = ap (at_position opening.sched.states) (position_is i t e)
 
     pub mark_at : (i t : ℕ) (s : PieceState) → slice_get ts i ≡ Some t → slice_get opening.sched.states i ≡ Some s → mark_in (batches_of p) p.sets.sets (piece_in id.block t) ≡ s
-    mark_at i t s e is = own_mark at id (Some (Open opening)) set t (at_mem ts i t e) ∙ ap (λ o. unwrap_or o state.Waiting) (state_at i t e ∙ is)
+    mark_at i t s e is = own_mark at id (Some (Open opening)) set t (at_mem ts i t e) ∙ ap (λ o. unwrap_or o state.Finished) (state_at i t e ∙ is)
 
     has_state : (i t : ℕ) → slice_get ts i ≡ Some t → (s : PieceState) × (slice_get opening.sched.states i ≡ Some s)
     has_state i t e =
@@ -236,7 +296,7 @@ module _ (job : Job) (p : Progress) (keeps : KeepsProgress job p) where
         q = piece_in id.block t
 
         waiting : mark_in (batches_of p) p.sets.sets q ≡ state.Waiting
-        waiting = own_mark at id (Some (Open opening)) set t (at_mem ts i t e) ∙ ap (λ o. unwrap_or o state.Waiting) (ready_waits opening.sched q ready)
+        waiting = own_mark at id (Some (Open opening)) set t (at_mem ts i t e) ∙ ap (λ o. unwrap_or o state.Finished) (ready_waits opening.sched q ready)
 
         done : PredsDone opening.sched i
         done = ((ready_by_pairs opening.sched q i (position_is i t e)).0 ready).1
@@ -288,10 +348,13 @@ module _ (job : Job) (p : Progress) (keeps : KeepsProgress job p) where
             go : Precedes job.parts job.first (batches_of p) keeps.machine.run_on (ends_at job m) o q place.k mine.k → among r.finished o ≡ true
             go (ByEdge same edge) = passed (inl (same ∙ batch_mine, edge))
             go (ByBatch same lt) = passed (inr (same, (let b = batch_mine in omega (arith, lt, b))))
-            go (ByConflict same batch lt c) = together (own_index at id (Some (Open opening)) set o.txn (placed_here o place at id (Some (Open opening)) set (sym (batch ∙ batch_mine)) (sym same)))
+            go (ByConflict same batch lt c) = decide (is_finished (mark (Some (Open opening)) (piece_in id.block o.txn))) refl
               where
                 own : piece_in id.block o.txn ≡ o
                 own = λ k. record { txn = o.txn; block = sym same k }
+
+                here : Mem o.txn (all_txns at id (Some (Open opening)) set)
+                here = placed_here o place at id (Some (Open opening)) set (sym (batch ∙ batch_mine)) (sym same)
 
                 together : (j : ℕ) × (slice_get ts j ≡ Some o.txn) → among r.finished o ≡ true
                 together j =
@@ -304,6 +367,15 @@ module _ (job : Job) (p : Progress) (keeps : KeepsProgress job p) where
                     (λ f. ap (among r.finished) (sym own) ∙ sym (finished_at j.0 o.txn j.1) ∙ f)
                     (λ same. let eq = same_number j.0 i same in absurd (omega (arith, less, eq)))
                     (or_cases (is_finished_at opening.sched j.0) (j.0 == i) all)
+
+                -- nothing is kept of it where it is finished
+                decide : (b : Bool) → is_finished (mark (Some (Open opening)) (piece_in id.block o.txn)) ≡ b → among r.finished o ≡ true
+                decide true e =
+                    ap (among r.finished) (sym own)
+                    ∙ finished_is job p keeps (piece_in id.block o.txn) (any_piece at id (Some (Open opening)) set o.txn here)
+                    ∙ ap is_finished (any_mark at id (Some (Open opening)) set o.txn here)
+                    ∙ e
+                decide false e = together (own_index at id (Some (Open opening)) set o.txn (unfinished_here at id (Some (Open opening)) set o.txn here e))
 
     -- a piece of it that is ready is ready in the schedule
     pub there_ready : (i t : ℕ) → slice_get ts i ≡ Some t → IsReadyAt job m (piece_in id.block t) → piece_is_ready opening.sched (piece_in id.block t) ≡ true
@@ -346,10 +418,14 @@ module _ (job : Job) (p : Progress) (keeps : KeepsProgress job p) where
   -- an unfinished set has an unfinished piece
   some_left : (at : ℕ) (id : SetId) (stage : SetStage) (set : SetAt at id (Some stage)) → (t : ℕ) × Mem t (txns at id (Some stage) set) × (among r.finished (piece_in id.block t) ≡ false)
   some_left at id (Waiting waiting) set =
-      let t = one_of (txns at id (Some (Waiting waiting)) set) set.some in
-      (t.0, t.1, finished_is job p keeps (piece_in id.block t.0) (own_piece at id (Some (Waiting waiting)) set t.0 t.1) ∙ ap is_finished (own_mark at id (Some (Waiting waiting)) set t.0 t.1))
+      let t = one_of waiting (rest_of at id (Waiting waiting) set).some in (
+        t.0,
+        t.1,
+        finished_is job p keeps (piece_in id.block t.0) (own_piece at id (Some (Waiting waiting)) set t.0 t.1)
+            ∙ ap is_finished (own_mark at id (Some (Waiting waiting)) set t.0 t.1 ∙ waiting_mark id.block waiting t.0 t.1),
+      )
   some_left at id (Open opening) set =
-      let is = keeps.stages at id (Open opening) set.batch set.there set.batch_there in
+      let is = (keeps.stages at id (Open opening) set.batch set.there set.batch_there).2 in
       let left = one_left opening.sched.states is.left in
       let within = slice_get_within opening.sched.states left.0 left.1 left.2 in
       let size = is.size in

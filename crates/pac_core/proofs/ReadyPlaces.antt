@@ -43,7 +43,7 @@ module _ (job : Job) (p : Progress) (keeps : KeepsProgress job p) (at : ℕ) (pi
   found : (t : ℕ) × (slice_get ts i ≡ Some t) × (piece_in id.block t ≡ piece)
   found =
       let s = stands opening.sched piece i at_i in
-      let pieces : opening.sched.pieces ≡ map (piece_in id.block) ts = (keeps.stages at id (Open opening) set.batch there set.batch_there).pieces in
+      let pieces : opening.sched.pieces ≡ map (piece_in id.block) ts = (keeps.stages at id (Open opening) set.batch set.there set.batch_there).2.pieces in
       map_at (piece_in id.block) ts i piece
       (ap (λ ps. slice_get ps i) (sym pieces) ∙ slice_get-get_or opening.sched.pieces i piece s.0 ∙ ap (λ x. Some x) s.1)
 

@@ -1,7 +1,7 @@
 -- Each piece that is out waits again: the replay has none out, and all is kept.
-use Rattle.std.proofs.Common.{◌≡◌, ℕ, false, cond, ◌&&◌, List, [], ◌∷◌, map, Option, Some, None, refl, sym, ap, ap₂, subst, ◌∙◌}
+use Rattle.std.proofs.Common.{◌≡◌, ℕ, Bool, true, false, cond, ◌==◌, ◌&&◌, List, [], ◌∷◌, map, Option, Some, None, refl, sym, ap, ap₂, subst, ◌∙◌}
 use Rattle.std.specs.Prelude.{slice_get, filter, T, unwrap_or}
-use Rattle.std.specs.List.{list_all}
+use Rattle.std.specs.List.{list_all, list_any}
 use Rattle.std.specs.Option.{option_map}
 use Rattle.std.specs.FinMap.{is_sorted}
 use Rattle.std.specs.FinMap.Entries.{below_all}
@@ -53,16 +53,20 @@ sorted_same (s ∷ ss) = ap₂ (λ a b. a && b) (below_same s.0 ss) (sorted_same
 -- a piece that was out waits
 mark_back : (kept : Option SetStage) (q : PieceId) → mark (reclaimed_kept kept) q ≡ put_back (mark kept q)
 mark_back None q = refl
-mark_back (Some (Waiting txns)) q = refl
+mark_back (Some (Waiting txns)) q = go (list_any (λ t. t == q.txn) txns)
+  where
+    go : (b : Bool) → cond b state.Waiting state.Finished ≡ put_back (cond b state.Waiting state.Finished)
+    go true = refl
+    go false = refl
 mark_back (Some (Open opening)) q = go (position_of opening.sched q)
   where
-    at : (o : Option PieceState) → unwrap_or (option_map put_back o) state.Waiting ≡ put_back (unwrap_or o state.Waiting)
+    at : (o : Option PieceState) → unwrap_or (option_map put_back o) state.Finished ≡ put_back (unwrap_or o state.Finished)
     at None = refl
     at (Some s) = refl
 
-    go : (o : Option ℕ) → unwrap_or (at_position (map put_back opening.sched.states) o) state.Waiting ≡ put_back (unwrap_or (at_position opening.sched.states o) state.Waiting)
+    go : (o : Option ℕ) → unwrap_or (at_position (map put_back opening.sched.states) o) state.Finished ≡ put_back (unwrap_or (at_position opening.sched.states o) state.Finished)
     go None = refl
-    go (Some i) = ap (λ o. unwrap_or o state.Waiting) (slice_get-map put_back opening.sched.states i) ∙ at (slice_get opening.sched.states i)
+    go (Some i) = ap (λ o. unwrap_or o state.Finished) (slice_get-map put_back opening.sched.states i) ∙ at (slice_get opening.sched.states i)
 
 none_out : (s : PieceState) → is_out (put_back s) ≡ false
 none_out state.Waiting = refl
@@ -150,16 +154,20 @@ module _ (job : Job) (p : Progress) (keeps : KeepsProgress job p) (orders : (j :
       of_stage : (x : SetStage) → slice_get p.sets.sets j ≡ Some (s, Some x) → IsStageOf (with_none_out r) (reclaimed_sets p.sets.sets) s (set_of job.parts batch.first batch.txns s.block).txns (reclaimed_stage x)
       of_stage (Waiting w) there = keeps.stages j s (Waiting w) batch there batch_there
       of_stage (Open o) there =
-          let is = keeps.stages j s (Open o) batch there batch_there in
-          record {
-            pieces = is.pieces;
-            pairs = is.pairs;
-            order = orders j s o there;
-            cells = is.cells;
-            passed = passed_still s is.passed;
-            left = all_still o.sched.states ∙ is.left;
-            size = length-map o.sched.states put_back ∙ is.size;
-          }
+          let stage = keeps.stages j s (Open o) batch there batch_there in
+          let is = stage.2 in (
+            stage.0,
+            stage.1,
+            record {
+              pieces = is.pieces;
+              pairs = is.pairs;
+              order = orders j s o there;
+              cells = is.cells;
+              passed = passed_still s is.passed;
+              left = all_still o.sched.states ∙ is.left;
+              size = length-map o.sched.states put_back ∙ is.size;
+            },
+          )
 
       go : (k : Option SetStage) → slice_get p.sets.sets j ≡ Some (was.0.0, k) → ◌≡◌ {A = Kept SetStage} (was.0.0, reclaimed_kept k) (s, Some stage) → IsStageOf (with_none_out r) (reclaimed_sets p.sets.sets) s (set_of job.parts batch.first batch.txns s.block).txns stage
       go None there e = let wrong : ◌≡◌ {A = Option SetStage} None (Some stage) = ap (λ (x : Kept SetStage). x.1) e in absurd cc

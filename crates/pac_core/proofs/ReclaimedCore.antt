@@ -20,7 +20,7 @@ use Rattle.pac_core.proofs.ReclaimOrder.{reclaimed_order}
 orders : (job : Job) (p : Progress) → KeepsProgress job p → (j : ℕ) (set : SetId) (opening : OpenSet) → slice_get p.sets.sets j ≡ Some (set, Some (Open opening)) → IsInOrder (reclaimed opening.sched)
 orders job p keeps j set opening there =
     let at = set_at job p keeps j set (Some (Open opening)) there in
-    reclaimed_order opening.sched (keeps.stages j set (Open opening) at.batch there at.batch_there).order
+    reclaimed_order opening.sched (keeps.stages j set (Open opening) at.batch there at.batch_there).2.order
 
 module _ (p : Progress) (u : Undoable) (core : IsCore p u) (anew : p.recent ≡ 0) where
   abbrev back : Progress

@@ -18,7 +18,8 @@ use Rattle.pac_core.specs.declared.stage.OpenSet.{OpenSet}
 use Rattle.pac_core.specs.Calls.{IsReplayDone, IsTakenPiece}
 use Rattle.pac_core.specs.Inputs.{LeavesValues}
 use Rattle.pac_core.specs.Links.{IsCore, KeepsProgress, ReadyFrom, core_of, job_of, replay_so_far}
-use Rattle.pac_core.specs.Moves.{IsNextAt, IsReadyAtOffset}
+use Rattle.pac_core.specs.declared.alone.NextAlone.{NextAlone}
+use Rattle.pac_core.specs.Moves.{IsNextAlone, IsNextAt, IsReadyAtOffset}
 use Rattle.pac_core.specs.Places.{AreValuesAt, IsPieceAt, IsTxnAt}
 use Rattle.pac_core.specs.Replay.{Replay}
 use Rattle.pac_core.specs.Results.{IsKeptAfter}
@@ -38,6 +39,9 @@ module _ (p new : Progress) (u : Undoable) (core : IsCore p u) (keeps : (job : J
 
   pub next_at : (next : Option (ℕ × PieceId)) → IsNextAt (job_of p u) new next → IsNextAt (job_of new u) new next
   next_at next is = subst (λ (j : Job). IsNextAt j new next) (sym (same_job p new u (sym (keeps (job_of p u) core.progress).parts) (sym (keeps (job_of p u) core.progress).first))) is
+
+  pub alone_at : (next : Option NextAlone) → IsNextAlone (job_of p u) new next → IsNextAlone (job_of new u) new next
+  alone_at next is = subst (λ (j : Job). IsNextAlone j new next) (sym (same_job p new u (sym (keeps (job_of p u) core.progress).parts) (sym (keeps (job_of p u) core.progress).first))) is
 
   -- what is answered of the progress then is answered of that before
   pub taken_before : (take : Take) (after : Replay) → IsTakenPiece (core_of new u) take after → IsTakenPiece (core_of p u) take after

@@ -5,6 +5,7 @@ use Rattle.std.specs.List.{list_all}
 use Rattle.std.proofs.lemmas.List.{length-set}
 use Rattle.std.proofs.lemmas.Option.{same_Some, slice_get_within}
 use Rattle.pac_base.specs.Members.{Mem}
+use Rattle.pac_ops.specs.declared.batch.Batch.{Batch}
 use Rattle.pac_ops.specs.declared.piece.PieceId.{PieceId}
 use Rattle.pac_plan.specs.declared.access.Access.TheVariants.{Whole}
 use Rattle.pac_plan.specs.Pieces.{Present, adds, is_piece}
@@ -128,6 +129,11 @@ module _ (job : Job) (p : Progress) (keeps : KeepsProgress job p) (at : ℕ) (id
       size_is : length now_open.sched.states ≡ length opening.sched.states
       size_is = ap (λ o. length (set_at o state.Out opening.sched.states)) (position_is job p keeps at id opening set i t e) ∙ length-set opening.sched.states i state.Out
 
+  moved_stage : (batch : Batch) → slice_get (batches_of p) id.batch ≡ Some batch → IsStageOf (with_out r piece) new.sets.sets id (set_of job.parts batch.first batch.txns id.block).txns (Open now_open)
+  moved_stage batch batch_there =
+      let was = keeps.stages at id (Open opening) batch set.there batch_there in
+      (was.0, was.1, opened_now was.0 was.2)
+
   stages_now : AreStages (with_out r piece) new.sets.sets
   stages_now j s stage batch here batch_there = go (equal_or_not j at)
     where
@@ -137,13 +143,13 @@ module _ (job : Job) (p : Progress) (keeps : KeepsProgress job p) (at : ℕ) (id
           let id_is : id ≡ s = ap (λ (x : Kept SetStage). x.0) same in
           let stage_is : Open now_open ≡ stage = same_Some _ _ (ap (λ (x : Kept SetStage). x.1) same) in
           subst (λ (x : SetStage). IsStageOf (with_out r piece) new.sets.sets s (set_of job.parts batch.first batch.txns s.block).txns x) stage_is
-          (subst (λ (x : SetId). IsOpened (with_out r piece) new.sets.sets x (set_of job.parts batch.first batch.txns x.block).txns now_open) id_is
-          (opened_now _ (keeps.stages at id (Open opening) batch set.there (ap (λ (x : SetId). slice_get (batches_of p) x.batch) id_is ∙ batch_there))))
+          (subst (λ (x : SetId). IsStageOf (with_out r piece) new.sets.sets x (set_of job.parts batch.first batch.txns x.block).txns (Open now_open)) id_is
+          (moved_stage batch (ap (λ (x : SetId). slice_get (batches_of p) x.batch) id_is ∙ batch_there)))
       go (inr differ) = still stage (keeps.stages j s stage batch (sym (get_other p.sets.sets at j (Some (Open now_open)) differ) ∙ here) batch_there)
         where
           still : (x : SetStage) → IsStageOf r p.sets.sets s (set_of job.parts batch.first batch.txns s.block).txns x → IsStageOf (with_out r piece) new.sets.sets s (set_of job.parts batch.first batch.txns s.block).txns x
           still (Waiting w) is = is
-          still (Open o) is = opened_still s _ o is
+          still (Open o) is = (is.0, is.1, opened_still s is.0 o is.2)
 
   unfinished_now : (k : ℕ) → IsUnfinishedBatch new.sets.sets k → IsUnfinishedBatch p.sets.sets k
   unfinished_now k (j, s, stage, here, batch) = go (equal_or_not j at)

@@ -1,7 +1,8 @@
 -- How what a core keeps stands for a replay: sets and their stages for the pieces that are out and finished, values that are kept
 -- for the variables of the present, and the note for its note.
-use Rattle.std.specs.Prelude.{◌≡◌, ◌<◌, ◌≤◌, ◌-◌, ◌+◌, ℕ, Bool, true, false, List, [], ◌∷◌, ◌++◌, map, filter, length, slice_get, Option, Some, None, T, unwrap_or}
+use Rattle.std.specs.Prelude.{◌≡◌, ◌<◌, ◌≤◌, ◌-◌, ◌+◌, ◌==◌, if◌then◌else◌, ℕ, Bool, true, false, List, [], ◌∷◌, ◌++◌, map, filter, length, slice_get, Option, Some, None, T, unwrap_or}
 use Rattle.std.specs.FinMap.{get, is_sorted}
+use Rattle.std.specs.List.{list_any}
 use Rattle.pac_value.specs.Expressions.{Values}
 use Rattle.pac_ops.specs.declared.batch.Batch.{Batch}
 use Rattle.pac_ops.specs.declared.piece.PieceId.{PieceId}
@@ -13,7 +14,7 @@ use Rattle.pac_plan.specs.Pieces.{Present}
 use Rattle.pac_plan.specs.Worlds.{batch_of}
 use Rattle.pac_batch.specs.declared.piece_set.PieceSet.{PieceSet}
 use Rattle.pac_batch.specs.NextLists.{AreNextPairs}
-use Rattle.pac_batch.specs.Sets.{set_of, sets_of}
+use Rattle.pac_batch.specs.Sets.{has_numbers, set_of, sets_of}
 use Rattle.pac_sched.specs.declared.state.PieceState.{PieceState}
 use Rattle.pac_sched.specs.declared.state.PieceState.TheVariants as state
 use Rattle.pac_sched.specs.Schedules.{IsInOrder, all_finished, is_finished, is_out, state_of_piece}
@@ -38,11 +39,11 @@ use Rattle.pac_core.specs.Replay.{Replay, left, machine_of, present_of}
 abbrev pub set_of_piece : List Batch → PieceId → SetId
 set_of_piece batches p = record { batch = batch_of batches p.txn - 1; block = p.block }
 
--- how far a piece is, by what is kept of its set
+-- how far a piece is, by what is kept of its set: finished, where nothing is kept of it
 abbrev pub mark : Option SetStage → PieceId → PieceState
 mark None p = state.Finished
-mark (Some (Waiting txns)) p = state.Waiting
-mark (Some (Open opening)) p = unwrap_or (state_of_piece opening.sched p) state.Waiting
+mark (Some (Waiting txns)) p = if list_any (λ t. t == p.txn) txns then state.Waiting else state.Finished
+mark (Some (Open opening)) p = unwrap_or (state_of_piece opening.sched p) state.Finished
 
 -- how far a piece of what is loaded is
 abbrev pub mark_in : List Batch → List (Kept SetStage) → PieceId → PieceState
@@ -72,7 +73,7 @@ replay_so_far job p = record {
 abbrev pub piece_in : ℕ → ℕ → PieceId
 piece_in block txn = record { txn = txn; block = block }
 
--- the pieces of a set were opened: they are scheduled by the next pairs of their accesses, the cells of each are known, and the sets
+-- these pieces of a set were opened: they are scheduled by the next pairs of their accesses, the cells of each are known, and the sets
 -- that this one waits for are finished
 pub record IsOpened (r : Replay) (sets : List (Kept SetStage)) (set : SetId) (txns : List ℕ) (opening : OpenSet) : Type 0 where
   pub pieces : opening.sched.pieces ≡ map (piece_in set.block) txns
@@ -83,10 +84,16 @@ pub record IsOpened (r : Replay) (sets : List (Kept SetStage)) (set : SetId) (tx
   pub left : all_finished opening.sched ≡ false
   pub size : length opening.sched.states ≡ length opening.sched.pieces
 
--- what is kept of a set is right, where these are the transactions that have pieces in it
+-- a list ends with another one, which isn't empty
+pub record IsRest (all rest : List ℕ) : Type 0 where
+  pub before : List ℕ
+  pub is : before ++ rest ≡ all
+  pub some : has_numbers rest ≡ true
+
+-- what is kept of a set is right, where these are the transactions that have pieces in it: it is kept of the last of them
 abbrev pub IsStageOf : Replay → List (Kept SetStage) → SetId → List ℕ → SetStage → Type 0
-IsStageOf r sets set txns (Waiting waiting) = waiting ≡ txns
-IsStageOf r sets set txns (Open opening) = IsOpened r sets set txns opening
+IsStageOf r sets set txns (Waiting rest) = IsRest txns rest
+IsStageOf r sets set txns (Open opening) = (rest : List ℕ) × IsRest txns rest × IsOpened r sets set rest opening
 
 -- so is what is kept of each unfinished set
 abbrev pub AreStages : Replay → List (Kept SetStage) → Type 0

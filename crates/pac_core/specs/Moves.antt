@@ -1,5 +1,5 @@
 -- What the parts of a core's calls leave.
-use Rattle.std.specs.Prelude.{◌≡◌, ◌<◌, ◌≤◌, ◌-◌, ◌+◌, ◌==◌, if◌then◌else◌, slice_set, ℕ, T, false, List, [], ◌∷◌, ◌++◌, map, length, replicate, slice_get, Option, Some, None, sum_by, unwrap_or}
+use Rattle.std.specs.Prelude.{◌≡◌, ◌<◌, ◌≤◌, ◌-◌, ◌+◌, ◌==◌, if◌then◌else◌, slice_set, ℕ, T, Bool, false, not, List, [], ◌∷◌, ◌++◌, map, length, replicate, slice_get, Option, Some, None, sum_by, unwrap_or}
 use Rattle.std.specs.List.{AllByRecursion, AllZip}
 use Rattle.std.specs.FinMap.{empty, is_sorted}
 use Rattle.pac_value.specs.Expressions.{Values}
@@ -16,7 +16,7 @@ use Rattle.pac_plan.specs.Worlds.{txn_args, txn_block, txn_code}
 use Rattle.pac_plan.specs.Codes.{HasTxnInputs, TxnFitsPlan}
 use Rattle.pac_batch.specs.declared.piece_set.PieceSet.{PieceSet}
 use Rattle.pac_batch.specs.NextLists.{AreNextPairs}
-use Rattle.pac_batch.specs.Sets.{sets_of}
+use Rattle.pac_batch.specs.Sets.{has_numbers, sets_of}
 use Rattle.pac_sched.specs.declared.state.PieceState.TheVariants as state
 use Rattle.pac_sched.specs.declared.state.Pick.TheVariants.{Piece}
 use Rattle.pac_sched.specs.Schedules.{IsInOrder, Schedule, all_finished, pick, reclaimed, state_of_piece, with_state}
@@ -26,6 +26,8 @@ use Rattle.pac_sets.specs.Sets.{IsOpenSet, Kept, with_kept_at}
 use Rattle.pac_commute.specs.Loads.{Job}
 use Rattle.pac_core.specs.declared.loaded.LoadedBatch.{LoadedBatch}
 use Rattle.pac_core.specs.declared.loading.Added.{Added}
+use Rattle.pac_core.specs.declared.alone.NextAlone.{NextAlone}
+use Rattle.pac_core.specs.declared.alone.NextAlone.TheVariants.{OfWaiting, OfOpen}
 use Rattle.pac_core.specs.declared.place.Place.{Place}
 use Rattle.pac_core.specs.declared.progress.Progress.{Progress}
 use Rattle.pac_core.specs.declared.stage.OpenSet.{OpenSet}
@@ -33,7 +35,7 @@ use Rattle.pac_core.specs.declared.stage.SetStage.{SetStage}
 use Rattle.pac_core.specs.declared.stage.SetStage.TheVariants.{Waiting, Open}
 use Rattle.pac_core.specs.Cells.{HasCellsOf}
 use Rattle.pac_core.specs.Inputs.{FindsInputs}
-use Rattle.pac_core.specs.Places.{IsPieceAt}
+use Rattle.pac_core.specs.Places.{IsPieceAt, IsTxnIn}
 use Rattle.pac_core.specs.Links.{IsUnfinishedBatch, batches_of, piece_in, replay_so_far}
 use Rattle.pac_core.specs.Takes.{IsNextPiece}
 
@@ -100,6 +102,28 @@ pub record IsReadyAtOffset (p : Progress) (at : ℕ) (piece : PieceId) : Type 0 
   pub stands : StandsOpen p at
   pub picked : pick stands.opening.sched ≡ Piece piece
 
+-- a piece is that of the first transaction that is left of an open set, and has this place
+pub record IsFirstLeft (p : Progress) (place : Place) (piece : PieceId) : Type 0 where
+  pub txn : IsTxnIn p.batches.items piece.txn place.batch place.index
+  pub rest : List ℕ
+  pub there : slice_get p.sets.sets place.at ≡ Some (record { batch = place.batch; block = piece.block }, Some (Waiting (piece.txn ∷ rest)))
+  pub opened : IsOpenSet p.sets.edges p.sets.sets place.at
+
+-- what comes next for one who runs pieces alone: the first piece that is left of a set that waits, or a ready one of an open set
+abbrev pub IsNextOf : Progress → NextAlone → Type 0
+IsNextOf p (OfWaiting place piece) = IsFirstLeft p place piece
+IsNextOf p (OfOpen at piece) = IsReadyAtOffset p at piece
+
+-- its piece
+abbrev pub piece_of : NextAlone → PieceId
+piece_of (OfWaiting place piece) = piece
+piece_of (OfOpen at piece) = piece
+
+-- it is the piece that comes next
+abbrev pub IsNextAlone : Job → Progress → Option NextAlone → Type 0
+IsNextAlone job p None = IsNextPiece (replay_so_far job p) None
+IsNextAlone job p (Some next) = IsNextPiece (replay_so_far job p) (Some (piece_of next)) × IsNextOf p next
+
 -- the piece that comes next, and where its set stands
 abbrev pub IsNextAt : Job → Progress → Option (ℕ × PieceId) → Type 0
 IsNextAt job p None = IsNextPiece (replay_so_far job p) None
@@ -111,14 +135,22 @@ IsNextAt job p (Some next) = IsNextPiece (replay_so_far job p) (Some next.1) × 
 abbrev pub after_finish : OpenSet → Option SetStage
 after_finish opening = if all_finished opening.sched then None else Some (Open opening)
 
+-- an open set with a piece finished
+abbrev pub finished_in : OpenSet → PieceId → OpenSet
+finished_in opening piece = record { sched = with_state opening.sched piece state.Finished; cells = opening.cells }
+
+-- what is kept of a set that waits once its first piece is finished: nothing where that was the last one
+abbrev pub after_first : List ℕ → Option SetStage
+after_first rest = if has_numbers rest then Some (Waiting rest) else None
+
 -- of a batch's transactions one keeps these values now
 abbrev pub keeps_now : List Values → ℕ → Values → List Values
 keeps_now kept i env = slice_set kept i env
 
--- a piece of the open set at an offset, of the transaction at a position in its batch, is finished with a note and with values that are kept
-pub record IsFinishedTo (p : Progress) (at : ℕ) (id : SetId) (opening : OpenSet) (piece : PieceId) (i : ℕ) (kept : Values) (note : Option Note) (new : Progress) : Type 0 where
+-- a piece of the set at an offset, of which this is kept then, is finished with a note, and with values that are kept of the transaction at a position in its batch
+pub record IsFinishedTo (p : Progress) (at : ℕ) (id : SetId) (after : Option SetStage) (i : ℕ) (kept : Values) (note : Option Note) (new : Progress) : Type 0 where
   pub pieces : new.pieces ≡ p.pieces
-  pub sets : new.sets ≡ record p.sets { sets = with_kept_at p.sets.sets at (after_finish (record { sched = with_state opening.sched piece state.Finished; cells = opening.cells })) }
+  pub sets : new.sets ≡ record p.sets { sets = with_kept_at p.sets.sets at after }
   pub note_is : new.note ≡ least p.note note
   pub first : new.first ≡ p.first
   pub next : new.next ≡ p.next
@@ -173,7 +205,38 @@ pub record MayFinish (p : Progress) (place : Place) (piece : PieceId) : Type 0 w
 -- a piece at a place is finished, with values that are kept and a note
 abbrev pub IsFinishedAt : Progress → Place → PieceId → Values → Option Note → Progress → Type 0
 IsFinishedAt p place piece kept note new = (set : SetId) (opening : OpenSet) → slice_get p.sets.sets place.at ≡ Some (set, Some (Open opening)) → set.batch ≡ place.batch
-    → IsFinishedTo p place.at set opening piece place.index kept note new
+    → IsFinishedTo p place.at set (after_finish (finished_in opening piece)) place.index kept note new
+
+-- the first transaction that is left of the set at an offset, which waits, and the others
+pub record StandsWaiting (p : Progress) (at : ℕ) : Type 0 where
+  pub set : SetId
+  pub first : ℕ
+  pub rest : List ℕ
+  pub there : slice_get p.sets.sets at ≡ Some (set, Some (Waiting (first ∷ rest)))
+
+-- the first piece of a set that waits may be finished: its transaction has room for values, and it is counted
+pub record MayFinishFirst (p : Progress) (place : Place) : Type 0 where
+  pub stands : StandsWaiting p place.at
+  pub loaded : LoadedBatch
+  pub loaded_there : slice_get p.batches.items place.batch ≡ Some loaded
+  pub counted : 0 < p.unfinished
+  pub opened : IsOpenSet p.sets.edges p.sets.sets place.at
+  pub ascend : T (is_sorted set_cmp p.sets.sets)
+  pub blocks : AreInBlocks p
+
+-- it is finished, with values that are kept and a note
+abbrev pub IsFirstFinished : Progress → Place → Values → Option Note → Progress → Type 0
+IsFirstFinished p place kept note new = (set : SetId) (first : ℕ) (rest : List ℕ) → slice_get p.sets.sets place.at ≡ Some (set, Some (Waiting (first ∷ rest))) → set.batch ≡ place.batch
+    → IsFinishedTo p place.at set (after_first rest) place.index kept note new
+
+-- the first transaction that is left of the set at an offset is left no more
+abbrev pub IsFirstDropped : Progress → ℕ → Progress → Type 0
+IsFirstDropped p at new = (set : SetId) (first : ℕ) (rest : List ℕ) → slice_get p.sets.sets at ≡ Some (set, Some (Waiting (first ∷ rest)))
+    → new ≡ record p { sets = record p.sets { sets = with_kept_at p.sets.sets at (Some (Waiting rest)) } }
+
+-- whether none is left then
+abbrev pub IsLastOf : Progress → ℕ → Bool → Type 0
+IsLastOf p at is = (set : SetId) (first : ℕ) (rest : List ℕ) → slice_get p.sets.sets at ≡ Some (set, Some (Waiting (first ∷ rest))) → not (has_numbers rest) ≡ is
 
 -- there is room for the values of a transaction
 abbrev pub HasValuesAt : List LoadedBatch → ℕ → ℕ → Type 0

@@ -45,6 +45,12 @@ pub record IsPieceAt (p : Progress) (place : Place) (piece : PieceId) (far : Pie
   pub stands : IsPieceIn p place.at piece place.position far
   pub set_is : stands.set ≡ record { batch = place.batch; block = piece.block }
 
+-- a piece has this place: its transaction in its batch, and its set, which isn't finished
+pub record IsPlaceOf (p : Progress) (place : Place) (piece : PieceId) : Type 0 where
+  pub txn : IsTxnIn p.batches.items piece.txn place.batch place.index
+  pub stage : SetStage
+  pub there : slice_get p.sets.sets place.at ≡ Some (record { batch = place.batch; block = piece.block }, Some stage)
+
 -- a piece of an open set has this place
 abbrev pub HasPlace : Progress → PieceId → Place → Type 0
 HasPlace p piece place = (far : PieceState) × IsPieceAt p place piece far

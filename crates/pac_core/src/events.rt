@@ -6,12 +6,13 @@ ghost use Rattle.pac_sched.specs.declared.state.PieceState.TheVariants.{Out, Wai
 ghost use Rattle.pac_commute.specs.Machine.{IsReadyAt};
 ghost use Rattle.pac_core.specs.Calls.{IsGivenBack, IsGivenWork, IsHandedIn, IsNextFinished, IsOwn, IsTakenPiece, MovesOut};
 ghost use Rattle.pac_core.specs.Links.{IsCore, IsKeptProgress, core_of, job_of};
-ghost use Rattle.pac_core.specs.Moves.{AreValuesKept, HasValuesAt, IsNextAt, IsReadyAtOffset, keeps_all};
-ghost use Rattle.pac_core.specs.Places.{HasPlace, IsPieceAt};
+ghost use Rattle.pac_core.specs.Moves.{AreValuesKept, HasValuesAt, IsFirstLeft, IsNextAlone, IsNextAt, IsReadyAtOffset, keeps_all};
+ghost use Rattle.pac_core.specs.Places.{IsPieceAt, IsPlaceOf};
 ghost use Rattle.pac_core.specs.Replay.{machine_of, with_finished};
 ghost use Rattle.pac_core.specs.Results.{FitsAt, HasKept, HasLeft, HasTxnAt, IsResultAmong, KeepsLeft};
 ghost use Rattle.pac_core.specs.Takes.{IsNextPiece, access_now};
 
+use crate::alone::NextAlone;
 use crate::answers::{Finish, Take};
 use crate::cells::PieceCells;
 use crate::loaded::LoadedBatch;
@@ -91,8 +92,8 @@ pub(crate) fn coming<R: Rows>(
     ensures next { IfOk result (IsNextPiece (core_of progress.old rows.now)) }
     ensures same { core_of progress.new rows.now ≡ core_of progress.old rows.now }
 {
-    match progress.next_ready()? {
-        Some(next) => Ok(Some(next.1)),
+    match progress.next_alone()? {
+        Some(next) => Ok(Some(next.piece())),
         None => Ok(None),
     }
 }
@@ -112,9 +113,28 @@ pub(crate) fn run_next<R: Rows>(
     ensures ok { IfOk result (λ next. IsNextFinished (core_of progress.old rows.old) next (core_of progress.new rows.new)) }
     ensures err { OnErr result (core_of progress.new rows.new ≡ core_of progress.old rows.old) }
 {
-    match progress.next_ready()? {
-        Some((at, piece)) => run_piece(progress, rows, room, at, piece),
+    match progress.next_alone()? {
+        Some(next) => run_alone(progress, rows, room, next),
         None => Ok(None),
+    }
+}
+
+// What comes next is run over the tables, and is finished.
+fn run_alone<R: Rows>(
+    progress: &mut Progress,
+    rows: &mut UndoRows<R>,
+    room: &mut Env,
+    next: NextAlone,
+) -> Result<Option<PieceId>, NoMemory>
+    requires core { IsCore progress.old rows.old }
+    requires next { IsNextAlone (job_of progress.old rows.old) progress.old (Some next) }
+    ensures keeps { IsCore progress.new rows.new }
+    ensures ok { IfOk result (λ next. IsNextFinished (core_of progress.old rows.old) next (core_of progress.new rows.new)) }
+    ensures err { OnErr result (core_of progress.new rows.new ≡ core_of progress.old rows.old) }
+{
+    match next {
+        NextAlone::OfWaiting(place, piece) => run_first(progress, rows, room, place, piece),
+        NextAlone::OfOpen(at, piece) => run_piece(progress, rows, room, at, piece),
     }
 }
 
@@ -135,6 +155,37 @@ fn run_piece<R: Rows>(
     let place = progress.place_of_ready(at, piece);
     run_here(progress, rows, room, place, piece)?;
     Ok(Some(piece))
+}
+
+// The first piece that is left of a set that waits is run over the tables, and is finished.
+fn run_first<R: Rows>(
+    progress: &mut Progress,
+    rows: &mut UndoRows<R>,
+    room: &mut Env,
+    place: Place,
+    first: PieceId,
+) -> Result<Option<PieceId>, NoMemory>
+    requires core { IsCore progress.old rows.old }
+    requires next { IsNextPiece (core_of progress.old rows.old) (Some first) }
+    requires left { IsFirstLeft progress.old place first }
+    ensures keeps { IsCore progress.new rows.new }
+    ensures ok { IfOk result (λ next. IsNextFinished (core_of progress.old rows.old) next (core_of progress.new rows.new)) }
+    ensures err { OnErr result (core_of progress.new rows.new ≡ core_of progress.old rows.old) }
+{
+    let outcome = outcome_of(progress, rows, room, place, first)?;
+    let PieceOutcome {
+        writes,
+        values,
+        note,
+    } = outcome;
+    match leave(progress, rows, place, first, &values, writes) {
+        Ok(()) => {
+            *room = values;
+            progress.finish_first(place, note);
+            Ok(Some(first))
+        }
+        Err((_, refused)) => Err(refused),
+    }
 }
 
 // The work of a ready piece whose access is of keys. `None`: it may touch any row of its block.
@@ -212,7 +263,7 @@ fn outcome_of<R: Rows>(
     piece: PieceId,
 ) -> Result<PieceOutcome, NoMemory>
     requires core { IsCore progress.now rows.now }
-    requires place { IsPieceAt progress.now place piece Waiting }
+    requires place { IsPlaceOf progress.now place piece }
     requires ready { IsReadyAt (job_of progress.now rows.now) (machine_of (core_of progress.now rows.now)) piece }
     ensures result { IfOk result (λ outcome. IsResultAmong (core_of progress.now rows.now) progress.now place piece outcome.writes outcome.values outcome.note) }
     ensures within { IfOk result (λ outcome. AreWithin rows.now.tables outcome.writes) }
@@ -237,7 +288,7 @@ fn leave<R: Rows>(
     writes: Writes,
 ) -> Result<(), (Writes, NoMemory)>
     requires kept { IsKeptProgress progress.old }
-    requires place { HasPlace progress.old piece place }
+    requires place { IsPlaceOf progress.old place piece }
     requires within { AreWithin rows.old.tables writes }
     ensures left { OnOk result (HasLeft progress.old place piece outs.now progress.new) }
     ensures made { OnOk result (rows.new ≡ record rows.old { current = written rows.old.current writes }) }

@@ -8,7 +8,8 @@
 //!   it may touch any row of its block. [`Core::finish`] takes the result, [`Core::give_back`] the work undone, and
 //!   [`Core::reclaim`] or [`Core::take_back`] all that is out. Work of another core, or over rows that have changed since, is
 //!   refused as foreign.
-//! - [`Core::coming`] says which piece comes next, and [`Core::run_next`] runs it over the tables, with nothing handed out.
+//! - [`Core::coming`] says which piece comes next, and [`Core::run_next`] runs it over the tables, with nothing handed out. While
+//!   no piece of a set was handed out, its pieces come in their order, and nothing is computed of what each may touch.
 //!   [`Core::drain`] runs all that is left so, and [`Core::outcome`] gives the tables, and the first transaction that aborted.
 //! - [`Core::load_all`] loads batches one after another. [`Core::ready`] is an estimate of what a take may find ready, and
 //!   [`weight_of`] of what a piece costs.
@@ -32,6 +33,7 @@
 //! that of executing the transactions one after another.
 #![tactic(auto)]
 
+mod alone;
 mod answers;
 mod cells;
 mod events;

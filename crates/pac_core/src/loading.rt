@@ -14,7 +14,8 @@ ghost use Rattle.pac_core.specs.Moves.{AreAdded, IsAlike, IsLoadedTo, IsWaitingS
 use crate::kept_values::KeptValues;
 use crate::loaded::LoadedBatch;
 use crate::progress::Progress;
-use crate::stage::SetStage;
+use crate::stage::{Remaining, SetStage};
+use crate::weighing::have_weight;
 use pac_base::{Exact, NoMemory};
 use pac_batch::{PieceSet, sets};
 use pac_ops::{Batch, Txn};
@@ -64,6 +65,7 @@ impl Progress {
         }
         self.next += batch.txns.items().len() as u64;
         self.unfinished = unfinished;
+        self.has_weight = self.has_weight || have_weight(batch.txns.items());
         self.recent = 0;
         match self.batches.push(LoadedBatch { batch, kept }) {
             Ok(()) => Ok(()),
@@ -110,7 +112,7 @@ fn waiting(alloc: Global, batch: u64, sets: &[PieceSet]) -> Result<Vec<Kept<SetS
             block: set.block,
         };
         let txns = set.txns.copy(alloc)?;
-        more.push((id, Some(SetStage::Waiting(txns))))?;
+        more.push((id, Some(SetStage::Waiting(Remaining::new(txns)))))?;
     }
     Ok(more)
 }

@@ -9,15 +9,15 @@ ghost use Rattle.pac_sets.specs.Sets.{IsOpenSet};
 ghost use Rattle.pac_tables.specs.Written.{AreWithin, written};
 ghost use Rattle.pac_value.specs.Expressions.{Values};
 ghost use Rattle.pac_core.specs.Links.{IsUnfinishedBatch};
-ghost use Rattle.pac_core.specs.Moves.{AreInBlocks, AreValuesKept, HasValuesAt, IsFinishedAt, IsLifted, IsMovedTo, IsOrderAfter, IsPieceOut, IsSetEnded, IsSetUnfinished, MayFinish, StandsOpen, WasOpen, keeps_all, keeps_none};
+ghost use Rattle.pac_core.specs.Moves.{AreInBlocks, AreValuesKept, HasValuesAt, IsFinishedAt, IsFirstDropped, IsFirstFinished, IsLastOf, IsLifted, IsMovedTo, IsOrderAfter, IsPieceOut, IsSetEnded, IsSetUnfinished, MayFinish, MayFinishFirst, StandsOpen, StandsWaiting, WasOpen, keeps_all, keeps_none};
 ghost use Rattle.pac_core.specs.Places.{AreValuesAt};
 ghost use Rattle.pac_core.specs.Results.{HasGiven};
 
 use crate::loaded::LoadedBatch;
 use crate::place::Place;
 use crate::progress::Progress;
-use crate::stage::{OpenSet, SetStage};
-use pac_base::{NoMemory, listed};
+use crate::stage::{OpenSet, Remaining, SetStage};
+use pac_base::NoMemory;
 use pac_ops::{Note, PieceId};
 use pac_sets::SetId;
 use pac_tables::{Rows, Writes};
@@ -69,6 +69,38 @@ impl Progress {
         }
     }
 
+    /// The first piece that is left of an open set that waits is finished with a note, where what it left is kept. Takes no memory.
+    pub fn finish_first(&mut self, place: Place, noted: Option<Note>)
+        requires { MayFinishFirst self.old place }
+        ensures { (kept : Values) → AreValuesAt self.old place kept → IsFirstFinished self.old place kept noted self.new }
+    {
+        let is_last = self.drop_first(place.at);
+        self.note = lesser(self.note, noted);
+        self.unfinished -= 1;
+        self.recent = earlier(self.recent, place.at);
+        if is_last {
+            self.end_set(place.at, place.batch);
+        }
+    }
+
+    // The first transaction that is left of a set that waits isn't any more. Whether it was the last.
+    fn drop_first(&mut self, at: usize) -> bool
+        requires { StandsWaiting self.old at }
+        ensures dropped { IsFirstDropped self.old at self.new }
+        ensures last { IsLastOf self.old at result }
+    {
+        let nothing = SetStage::Waiting(Remaining::none(self.alloc));
+        match self.sets.exchange(at, nothing) {
+            SetStage::Waiting(mut rest) => {
+                rest.drop_first();
+                let is_last = rest.as_slice().is_empty();
+                self.sets.keep(at, SetStage::Waiting(rest));
+                is_last
+            }
+            SetStage::Open(_) => unreachable!(),
+        }
+    }
+
     // A set of a batch is finished. Where it is the last one of the batch, nothing is kept of its transactions any more.
     fn end_set(&mut self, at: usize, batch: usize)
         requires open { IsOpenSet self.old.sets.edges self.old.sets.sets at }
@@ -89,7 +121,7 @@ impl Progress {
         ensures was { WasOpen self.old at result }
         ensures now { IsLifted self.old at self.new }
     {
-        let nothing = SetStage::Waiting(listed(Vec::new(self.alloc)));
+        let nothing = SetStage::Waiting(Remaining::none(self.alloc));
         match self.sets.exchange(at, nothing) {
             SetStage::Open(open) => open,
             SetStage::Waiting(_) => unreachable!(),

@@ -7,7 +7,7 @@ ghost use Rattle.pac_plan.specs.Codes.{HasTxnInputs, TxnFitsPlan};
 ghost use Rattle.pac_batch.specs.Sets.{set_of};
 ghost use Rattle.pac_core.specs.Cells.{HasCellsOf};
 ghost use Rattle.pac_core.specs.Inputs.{FindsInputs};
-ghost use Rattle.pac_core.specs.Links.{piece_in};
+ghost use Rattle.pac_core.specs.Links.{IsRest};
 ghost use Rattle.pac_core.specs.Moves.{HasAllInputs, IsFreshlyOpen, access_over};
 
 use crate::cells::{PieceCells, cells_of};
@@ -37,7 +37,7 @@ pub(crate) fn open_set(
 ) -> Result<OpenSet, NoMemory>
     requires fit { AllByRecursion (TxnFitsPlan plan.now) loaded.now.batch.txns }
     requires block { block < plan.now.blocks }
-    requires txns { txns.now ≡ (set_of plan.now loaded.now.batch.first loaded.now.batch.txns block).txns }
+    requires txns { IsRest (set_of plan.now loaded.now.batch.first loaded.now.batch.txns block).txns txns.now }
     requires inputs { HasAllInputs plan.now loaded.now block }
     ensures { IfOk result (IsFreshlyOpen plan.now loaded.now block txns.now) }
 {

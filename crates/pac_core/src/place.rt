@@ -5,7 +5,7 @@ ghost use Rattle.pac_commute.specs.Machine.{among};
 ghost use Rattle.pac_sched.specs.declared.state.PieceState.TheVariants.{Out, Waiting};
 ghost use Rattle.pac_core.specs.Links.{IsKeptProgress, KeepsProgress, replay_so_far};
 ghost use Rattle.pac_core.specs.Moves.{IsReadyAtOffset, StandsOpen};
-ghost use Rattle.pac_core.specs.Places.{AreCellsAt, AreValuesAt, HasPlace, IsNotOutOf, IsOpenAt, IsPieceIn, IsPieceAt, IsTxnAt, IsTxnIn, IsTxnNowhere, LoadedRunOn};
+ghost use Rattle.pac_core.specs.Places.{AreCellsAt, AreValuesAt, HasPlace, IsNotOutOf, IsOpenAt, IsPieceIn, IsPieceAt, IsPlaceOf, IsTxnAt, IsTxnIn, IsTxnNowhere, LoadedRunOn};
 
 use crate::cells::PieceCells;
 use crate::kept_values::KeptValues;
@@ -152,7 +152,7 @@ impl Progress {
 
     /// The transaction of a piece.
     pub fn txn_at(&self, place: Place, piece: PieceId) -> &Txn
-        requires { HasPlace self.now piece place }
+        requires { IsPlaceOf self.now place piece }
         ensures { IsTxnAt self.now place result.now }
     {
         &self.batches[place.batch].batch.txns.items()[place.index]
@@ -161,7 +161,7 @@ impl Progress {
     /// The values that are kept of it.
     pub fn values_at(&self, place: Place, piece: PieceId) -> &KeptValues
         requires kept { IsKeptProgress self.now }
-        requires place { HasPlace self.now piece place }
+        requires place { IsPlaceOf self.now place piece }
         ensures { AreValuesAt self.now place result.now }
     {
         &self.batches[place.batch].kept[place.index]

@@ -9,6 +9,7 @@ ghost use Rattle.pac_core.specs.Inputs.{FindsInputs, PassesOn};
 
 use crate::kept_values::KeptValues;
 use crate::values::{are_values, find_values};
+use crate::weighing::has_weight;
 use pac_base::{Exact, Listed, NoMemory, Same};
 use pac_interface::{Interface, interfaces};
 use pac_keys::PlanCode;
@@ -23,6 +24,8 @@ use std::marker::Model;
 pub(crate) struct PlanPieces {
     code: PlanCode,
     interfaces: Vec<Listed<Interface>>,
+    /// Whether a piece of some call is worth handing out.
+    pub has_weight: bool,
 }
 
 impl Model for PlanPieces {
@@ -50,7 +53,12 @@ impl PlanPieces {
     {
         let code = PlanCode::new(alloc, plan)?;
         let interfaces = interfaces(alloc, &code)?;
-        Ok(PlanPieces { code, interfaces })
+        let has_weight = has_weight(&code);
+        Ok(PlanPieces {
+            code,
+            interfaces,
+            has_weight,
+        })
     }
 
     /// The plan with its code.

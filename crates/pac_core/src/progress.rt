@@ -32,6 +32,8 @@ pub(crate) struct Progress {
     pub next: u64,
     /// How many pieces are not finished.
     pub unfinished: u64,
+    /// Whether a piece that may be loaded, or is, weighs anything.
+    pub has_weight: bool,
     pub is_closed: bool,
     /// No set before this offset has a ready piece. It is that of the set whose piece came next last, or a lesser one: a ready
     /// piece is looked for from there on, and a piece that is out there first.
@@ -49,6 +51,7 @@ impl Progress {
     {
         let pieces = PlanPieces::new(alloc, plan)?;
         let sets = Sets::new(alloc, pieces.code().plan())?;
+        let has_weight = pieces.has_weight;
         Ok(Progress {
             alloc,
             pieces,
@@ -58,6 +61,7 @@ impl Progress {
             first,
             next: first,
             unfinished: 0,
+            has_weight,
             is_closed: false,
             recent: 0,
         })

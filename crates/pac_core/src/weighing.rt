@@ -5,6 +5,7 @@ use crate::answers::ReadyPieces;
 use crate::plan_pieces::PlanPieces;
 use crate::progress::Progress;
 use crate::stage::SetStage;
+use pac_keys::PlanCode;
 use pac_ops::Txn;
 use pac_plan::Code;
 use pac_sched::Pick;
@@ -22,10 +23,41 @@ pub fn weight_of(code: &Code) -> u64 {
     len.saturating_sub(HANDING_OUT) as u64
 }
 
+/// Whether a piece of some procedure weighs anything.
+pub(crate) fn has_weight(code: &PlanCode) -> bool {
+    for proc in 0..code.plan().procs() {
+        for block in 0..code.plan().blocks() {
+            if weight_of(code.code(proc, block).get()) > 0 {
+                return true;
+            }
+        }
+    }
+    false
+}
+
+/// Whether the records of some transaction weigh anything.
+pub(crate) fn have_weight(txns: &[Txn]) -> bool {
+    for txn in txns {
+        if let Txn::AdHoc { records } = txn {
+            if records.items().len() > HANDING_OUT {
+                return true;
+            }
+        }
+    }
+    false
+}
+
 impl Progress {
     /// About how many pieces a take may find ready, in the sets that are opened and in those that a take may open, and what
-    /// they weigh. Takes no memory, and time that grows with the number of blocks, not with that of sets.
+    /// they weigh. Where none that is loaded weighs anything it looks at no set, and all that aren't finished count. Takes no memory,
+    /// and time that grows with the number of blocks, not with that of sets.
     pub fn ready(&self) -> ReadyPieces {
+        if !self.has_weight {
+            return ReadyPieces {
+                pieces: self.unfinished,
+                weight: 0,
+            };
+        }
         let mut pieces: u64 = 0;
         let mut weight: u64 = 0;
         for block in 0..self.sets.blocks() {
@@ -73,7 +105,7 @@ impl Progress {
 // How many pieces of a set may be ready, and the transaction of the first of them. Those that aren't opened yet all count.
 fn first_ready(stage: &SetStage) -> (u64, Option<u64>) {
     match stage {
-        SetStage::Waiting(txns) => (txns.len() as u64, txns.get(0).copied()),
+        SetStage::Waiting(rest) => (rest.as_slice().len() as u64, rest.first()),
         SetStage::Open(open) => match open.sched.peek() {
             Pick::Piece(piece) => (open.sched.ready() as u64, Some(piece.txn)),
             Pick::NotReady | Pick::Done => (0, None),

@@ -15,6 +15,7 @@ use Rattle.pac_core.specs.Results.{HasLeft}
 use Rattle.pac_core.proofs.HandIns.{handed_core, handed_is, handed_within}
 use Rattle.pac_core.proofs.LeftValues.{finished_over, may_over, no_room_core, no_room_is, order_over}
 use Rattle.pac_core.proofs.MayFinishes.{may_finish}
+use Rattle.pac_core.proofs.PlacedTxns.{as_placed}
 use Rattle.pac_core.proofs.events.hand_in.Goals as goal
 
 abbrev Parts : Type 0
@@ -24,7 +25,7 @@ pub leave-requires-clause-kept : goal.leave-requires-clause-kept
 leave-requires-clause-kept g c = record { job = job_of c.args.progress.now c.args.rows.now; keeps = c.requires.progress }
 
 pub leave-requires-clause-place : goal.leave-requires-clause-place
-leave-requires-clause-place g c = (state.Out, subst (λ (w : Work). IsPieceAt c.args.progress.now c.in-Some.place w.piece state.Out) (c.work.ensures ∙ sym c.work-2.ensures) c.in-Some.ensures.place)
+leave-requires-clause-place g c = as_placed (subst (λ (w : Work). IsPieceAt c.args.progress.now c.in-Some.place w.piece state.Out) (c.work.ensures ∙ sym c.work-2.ensures) c.in-Some.ensures.place)
 
 pub leave-requires-clause-within : goal.leave-requires-clause-within
 leave-requires-clause-within g c =

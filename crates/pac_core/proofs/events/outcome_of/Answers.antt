@@ -20,20 +20,20 @@ use Rattle.pac_core.proofs.EventFacts.{block_inside, fits, may_run_on, result_is
 use Rattle.pac_core.proofs.events.outcome_of.Goals as goal
 
 pub code_of-requires-clause-fits : goal.code_of-requires-clause-fits
-code_of-requires-clause-fits g c = fits c.args.progress.now c.args.rows.now c.requires.core c.args.place c.args.piece state.Waiting c.requires.place c.txn_at-txn.result.now c.txn_at-txn.ensures
+code_of-requires-clause-fits g c = fits c.args.progress.now c.args.rows.now c.requires.core c.args.place c.args.piece c.requires.place c.txn_at-txn.result.now c.txn_at-txn.ensures
 
 pub code_of-requires-clause-block : goal.code_of-requires-clause-block
-code_of-requires-clause-block g c = block_inside c.args.progress.now c.args.rows.now c.requires.core c.args.place c.args.piece state.Waiting c.requires.place c.txn_at-txn.result.now c.txn_at-txn.ensures
+code_of-requires-clause-block g c = block_inside c.args.progress.now c.args.rows.now c.requires.core c.args.place c.args.piece c.requires.place c.txn_at-txn.result.now c.txn_at-txn.ensures
 
 pub find-requires-clause-fits : goal.find-requires-clause-fits
-find-requires-clause-fits g c = fits c.args.progress.now c.args.rows.now c.requires.core c.args.place c.args.piece state.Waiting c.requires.place c.txn_at-txn.result.now c.txn_at-txn.ensures
+find-requires-clause-fits g c = fits c.args.progress.now c.args.rows.now c.requires.core c.args.place c.args.piece c.requires.place c.txn_at-txn.result.now c.txn_at-txn.ensures
 
 pub find-requires-clause-block : goal.find-requires-clause-block
-find-requires-clause-block g c = block_inside c.args.progress.now c.args.rows.now c.requires.core c.args.place c.args.piece state.Waiting c.requires.place c.txn_at-txn.result.now c.txn_at-txn.ensures
+find-requires-clause-block g c = block_inside c.args.progress.now c.args.rows.now c.requires.core c.args.place c.args.piece c.requires.place c.txn_at-txn.result.now c.txn_at-txn.ensures
 
 pub run_on-requires : goal.run_on-requires
 run_on-requires g c =
-    may_run_on c.args.progress.now c.args.rows.now c.requires.core c.args.place c.args.piece state.Waiting c.requires.place c.txn_at-txn.result.now c.txn_at-txn.ensures c.values_at-kept.result.now c.values_at-kept.ensures c.requires.ready.3
+    may_run_on c.args.progress.now c.args.rows.now c.requires.core c.args.place c.args.piece c.requires.place c.txn_at-txn.result.now c.txn_at-txn.ensures c.values_at-kept.result.now c.values_at-kept.ensures c.requires.ready.3
     c.find.new.env c.in_ok-find.ensures c.get.result.now (c.get.ensures ∙ c.in_ok-code.ensures) _ (sym c.rows.ensures.tables) _ c.rows.ensures.rows
 
 pub returns-clause-result : goal.returns-clause-result
@@ -55,7 +55,7 @@ returns-clause-result g c = go c.run_on.result c.run_on.ensures.value
         → IsResultAmong (core_of p c.args.rows.now) p c.args.place c.args.piece outcome.writes outcome.values outcome.note
     of_core outcome end = record {
       outs = end.outs;
-      result = result_is p c.args.rows.now c.requires.core c.args.place c.args.piece state.Waiting c.requires.place txn c.txn_at-txn.ensures kept c.values_at-kept.ensures c.requires.ready.3 refl
+      result = result_is p c.args.rows.now c.requires.core c.args.place c.args.piece c.requires.place txn c.txn_at-txn.ensures kept c.values_at-kept.ensures c.requires.ready.3 c.requires.ready.2
           env c.in_ok-find.ensures c.args.rows.now.current (λ a covers. ap (λ (t : Tables). get t a) c.requires.core.rows) outcome.writes end.outs outcome.note end.value;
       leaves = λ now after. kept_after_is p c.args.place c.args.piece end.outs txn c.txn_at-txn.ensures kept c.values_at-kept.ensures now
           (leaves_passed p.pieces c.args.piece.block txn kept env c.in_ok-find.ensures c.args.piece.txn c.args.rows.now.current outcome.writes outcome.values outcome.note end kept now

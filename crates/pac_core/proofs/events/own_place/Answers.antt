@@ -9,6 +9,7 @@ use Rattle.pac_core.specs.Takes.{IsWorkOver}
 use Rattle.pac_core.proofs.EventFacts.{block_inside, cells_within, fits, of_own, own_of}
 use Rattle.pac_core.proofs.OutPlaces.{if_none}
 use Rattle.pac_core.proofs.PlacedPieces.{cells_are}
+use Rattle.pac_core.proofs.PlacedTxns.{as_placed}
 use Rattle.pac_core.proofs.events.own_place.Goals as goal
 
 pub place_of_out-requires : goal.place_of_out-requires
@@ -20,11 +21,17 @@ cells_at-requires-clause-kept g c = record { job = job_of c.args.progress.now c.
 pub cells_at-requires-clause-place : goal.cells_at-requires-clause-place
 cells_at-requires-clause-place g c = (state.Out, c.in_ok-place.ensures.found)
 
+pub txn_at-txn-requires : goal.txn_at-txn-requires
+txn_at-txn-requires g c = as_placed c.in_ok-place.ensures.found
+
+pub values_at-kept-requires-clause-place : goal.values_at-kept-requires-clause-place
+values_at-kept-requires-clause-place g c = as_placed c.in_ok-place.ensures.found
+
 pub is_work_of-requires-clause-fits : goal.is_work_of-requires-clause-fits
-is_work_of-requires-clause-fits g c = fits c.args.progress.now c.args.rows.now c.requires c.in_ok-place.place c.args.work.now.piece state.Out c.in_ok-place.ensures.found c.txn_at-txn.result.now c.txn_at-txn.ensures
+is_work_of-requires-clause-fits g c = fits c.args.progress.now c.args.rows.now c.requires c.in_ok-place.place c.args.work.now.piece (as_placed c.in_ok-place.ensures.found) c.txn_at-txn.result.now c.txn_at-txn.ensures
 
 pub is_work_of-requires-clause-block : goal.is_work_of-requires-clause-block
-is_work_of-requires-clause-block g c = block_inside c.args.progress.now c.args.rows.now c.requires c.in_ok-place.place c.args.work.now.piece state.Out c.in_ok-place.ensures.found c.txn_at-txn.result.now c.txn_at-txn.ensures
+is_work_of-requires-clause-block g c = block_inside c.args.progress.now c.args.rows.now c.requires c.in_ok-place.place c.args.work.now.piece (as_placed c.in_ok-place.ensures.found) c.txn_at-txn.result.now c.txn_at-txn.ensures
 
 pub is_work_of-requires-clause-cells : goal.is_work_of-requires-clause-cells
 is_work_of-requires-clause-cells g c =
@@ -32,7 +39,7 @@ is_work_of-requires-clause-cells g c =
     let u = c.args.rows.now in
     let access = access_at (job_of p u) (machine_of (core_of p u)) c.args.work.now.piece in
     let named : AreCellsOf access c.in-Keys.cells.items = subst (AreOf access) c.in-Keys.is (cells_are (job_of p u) p c.requires.progress c.in_ok-place.place c.args.work.now.piece state.Out c.in_ok-place.ensures.found c.cells_at.result.now c.cells_at.ensures) in
-    cells_within p u c.requires c.in_ok-place.place c.args.work.now.piece state.Out c.in_ok-place.ensures.found c.txn_at-txn.result.now c.txn_at-txn.ensures
+    cells_within p u c.requires c.in_ok-place.place c.args.work.now.piece (as_placed c.in_ok-place.ensures.found) c.txn_at-txn.result.now c.txn_at-txn.ensures
     c.as_slice.result.now (subst (AreCellsOf access) (sym c.as_slice.ensures.value) named) _ (sym c.rows.ensures.tables)
 
 pub returns-then-is_work_of-clause-own : goal.returns-then-is_work_of-clause-own

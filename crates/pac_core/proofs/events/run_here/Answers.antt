@@ -7,13 +7,17 @@ use Rattle.pac_core.proofs.HandIns.{ran_core, ran_is}
 use Rattle.pac_core.proofs.LeftValues.{before_moved, finished_over, may_over, moved_before, no_room_core, no_room_is, open_over, stands_moved, values_moved}
 use Rattle.pac_core.proofs.MayFinishes.{may_run, run_finished, run_order}
 use Rattle.pac_core.proofs.TakeNext.{first_picked}
+use Rattle.pac_core.proofs.PlacedTxns.{as_placed}
 use Rattle.pac_core.proofs.events.run_here.Goals as goal
 
 pub leave-requires-clause-kept : goal.leave-requires-clause-kept
 leave-requires-clause-kept g c = record { job = job_of c.args.progress.now c.args.rows.now; keeps = c.requires.core.progress }
 
 pub leave-requires-clause-place : goal.leave-requires-clause-place
-leave-requires-clause-place g c = (state.Waiting, c.requires.place)
+leave-requires-clause-place g c = as_placed c.requires.place
+
+pub outcome_of-requires-clause-place : goal.outcome_of-requires-clause-place
+outcome_of-requires-clause-place g c = as_placed c.requires.place
 
 pub hand_out-requires : goal.hand_out-requires
 hand_out-requires g c = open_over c.args.progress.now c.leave.new.progress c.args.place c.args.piece state.Waiting c.requires.place c.in_ok-outcome.outcome.values c.in-Ok.ensures.left

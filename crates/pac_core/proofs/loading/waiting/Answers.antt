@@ -26,7 +26,7 @@ loop-set-preserved c =
     subst (λ (l : List PieceSet). AllZip (IsWaitingSet c.args.batch) l c.push.new.self.items) (sym (take_more sets i x c.loop-set-test.true))
     (subst (λ (l : List (Kept SetStage)). AllZip (IsWaitingSet c.args.batch) (take i sets ++ get_or sets i x ∷ []) l) (sym c.in_ok-push.ensures.items)
     (zip_more (IsWaitingSet c.args.batch) (take i sets) c.loop-set.more.items (get_or sets i x) _ c.loop-set.invariant
-    (λ k. (record { batch = c.args.batch; block = (c.set-item.is k).block }, Some (Waiting ((c.in_ok-txns.ensures ∙ ap (λ (s : PieceSet). s.txns) c.set-item.is) k))))))
+    (λ k. (record { batch = c.args.batch; block = (c.set-item.is k).block }, Some (Waiting ((c.new.ensures ∙ c.in_ok-txns.ensures ∙ ap (λ (s : PieceSet). s.txns) c.set-item.is) k))))))
 
 pub returns : goal.returns
 returns c = subst (λ (l : List PieceSet). AllZip (IsWaitingSet c.args.batch) l c.loop-set.more.items) (take_all c.loop-set.set-index c.args.sets.now c.loop-set-test.false) c.loop-set.invariant

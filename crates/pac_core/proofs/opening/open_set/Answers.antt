@@ -12,7 +12,7 @@ use Rattle.pac_core.specs.declared.cells.PieceCells.{PieceCells}
 use Rattle.pac_core.specs.Cells.{HasCellsOf}
 use Rattle.pac_core.specs.Links.{piece_in}
 use Rattle.pac_core.specs.Moves.{access_over}
-use Rattle.pac_core.proofs.Ascending.{ascending, set_rises}
+use Rattle.pac_core.proofs.Ascending.{ascending, rises_end, set_rises}
 use Rattle.pac_core.proofs.OpeningLists.{has_more, map_more, pairs_below, set_fewer, set_range}
 use Rattle.pac_core.proofs.opening.open_set.Goals as goal
 
@@ -63,7 +63,7 @@ pub open_set-requires-clause-distinct : goal.open_set-requires-clause-distinct
 open_set-requires-clause-distinct c =
     let txns = c.args.txns.now in
     let i = c.loop-txn.txn-index in
-    let rises : Rises txns = subst Rises (sym c.requires.txns) (set_rises c.args.plan.now c.args.loaded.now.batch.first c.args.loaded.now.batch.txns c.args.block) in
+    let rises : Rises txns = rises_end c.requires.txns.before txns (subst Rises (sym c.requires.txns.is) (set_rises c.args.plan.now c.args.loaded.now.batch.first c.args.loaded.now.batch.txns c.args.block)) in
     let pieces : c.deref-2.result.now ≡ map (piece_in c.args.block) txns = c.deref-2.ensures.value ∙ c.loop-txn.invariant.pieces ∙ ap (map (piece_in c.args.block)) (take_all i txns c.loop-txn-test.false) in
     subst (λ (s : Schedule). AreDifferent (s.pieces ++ c.deref-2.result.now)) (sym c.new-sched.ensures)
     (subst AreDifferent (sym pieces) (ascending_differ (map (piece_in c.args.block) txns) (ascending c.args.block txns rises)))

@@ -14,7 +14,8 @@ use Rattle.pac_core.specs.declared.stage.OpenSet.{OpenSet}
 use Rattle.pac_core.specs.declared.stage.SetStage.{SetStage}
 use Rattle.pac_core.specs.declared.stage.SetStage.TheVariants.{Open, Waiting}
 use Rattle.pac_core.proofs.EndedSet.{blocks_still, open_still}
-use Rattle.pac_core.proofs.FinishedPiece.{after_some, ended_sets, finished_in, finished_test, finished_to}
+use Rattle.pac_core.specs.Moves.{after_finish, finished_in}
+use Rattle.pac_core.proofs.FinishedPiece.{after_some, ended_sets, finished_test, finished_to, sets_alone}
 use Rattle.pac_core.proofs.KeptAt.{get_changed}
 use Rattle.pac_core.proofs.Moved.{open_is, sets_kept}
 use Rattle.pac_core.proofs.ValuesKept.{values_stay}
@@ -88,8 +89,8 @@ returns-then-is_done-clause-finished c = λ kept_now stands set opening there ow
     let counted : c.args.self.now.unfinished ≡ lifted.unfinished = ap (λ (q : Progress). q.unfinished) (sym c.lift-open.ensures.now) in
     let some = c.requires.counted in
     let same = c.end_set.ensures.unfinished in
-    finished_to p c.args.place c.args.piece kept_now c.args.note lifted c.lift-open.ensures.now lifted.batches.items
-    (values_stay lifted.batches.items c.args.place.batch c.args.place.index kept_now stands.0 (ap (λ (q : Progress). slice_get q.batches.items c.args.place.batch) c.lift-open.ensures.now ∙ stands.1) stands.2) set opening own c.end_set.new.self
+    finished_to p c.args.place kept_now c.args.note lifted (sets_alone p lifted _ c.lift-open.ensures.now) lifted.batches.items
+    (values_stay lifted.batches.items c.args.place.batch c.args.place.index kept_now stands.0 (ap (λ (q : Progress). slice_get q.batches.items c.args.place.batch) c.lift-open.ensures.now ∙ stands.1) stands.2) set (after_finish now) own c.end_set.new.self
     c.end_set.ensures.pieces
     (ended_sets p c.args.place.at now all c.keep.new.self c.end_set.new.self.sets kept c.end_set.ensures.sets)
     (c.end_set.ensures.note_is ∙ c.lesser-self.ensures)
@@ -114,8 +115,8 @@ returns-else-is_done-clause-finished c = λ kept_now stands set opening there ow
     finished_test now.sched ∙ ap (λ (o : OpenSet). unfinished_pieces o.sched == 0) (sym done) ∙ ap (λ n. n == 0) (sym c.unfinished-is_done.ensures) ∙ unlike (c.unfinished-is_done.result == 0) (λ h. c.if-is_done.false (same_number c.unfinished-is_done.result 0 h)) in
     let counted : c.args.self.now.unfinished ≡ lifted.unfinished = ap (λ (q : Progress). q.unfinished) (sym c.lift-open.ensures.now) in
     let some = c.requires.counted in
-    finished_to p c.args.place c.args.piece kept_now c.args.note lifted c.lift-open.ensures.now lifted.batches.items
-    (values_stay lifted.batches.items c.args.place.batch c.args.place.index kept_now stands.0 (ap (λ (q : Progress). slice_get q.batches.items c.args.place.batch) c.lift-open.ensures.now ∙ stands.1) stands.2) set opening own _
+    finished_to p c.args.place kept_now c.args.note lifted (sets_alone p lifted _ c.lift-open.ensures.now) lifted.batches.items
+    (values_stay lifted.batches.items c.args.place.batch c.args.place.index kept_now stands.0 (ap (λ (q : Progress). slice_get q.batches.items c.args.place.batch) c.lift-open.ensures.now ∙ stands.1) stands.2) set (after_finish now) own _
     refl
     (kept ∙ ap (λ (o : Option SetStage). record p.sets { sets = with_kept_at p.sets.sets c.args.place.at o }) (after_some now some_left))
     c.lesser-self.ensures

@@ -9,22 +9,10 @@ use Rattle.pac_core.specs.declared.loaded.LoadedBatch.{LoadedBatch}
 use Rattle.pac_core.specs.declared.progress.Progress.{Progress}
 use Rattle.pac_core.specs.declared.stage.SetStage.{SetStage}
 use Rattle.pac_core.specs.declared.stage.SetStage.TheVariants.{Waiting}
+use Rattle.pac_core.specs.Links.{IsRest}
 use Rattle.pac_core.specs.Moves.{HasAllInputs, IsFreshlyOpen}
-use Rattle.pac_core.proofs.OpenedSets.{batch_fits, block_inside, inputs_are, loaded_there, txns_are}
+use Rattle.pac_core.proofs.OpenedSets.{batch_fits, batch_read, block_inside, inputs_are, loaded_there, set_read, stage_read, txns_are}
 use Rattle.pac_core.proofs.progress.Progress.opening_of.Goals as goal
-
--- what was read is the open set
-module _ (p : Progress) (at : ℕ) (opened : IsOpenSet p.sets.edges p.sets.sets at) (read : Kept SetStage) (here : slice_get p.sets.sets at ≡ Some read) where
-  set_read : opened.set ≡ read.0
-  set_read = ap (λ (x : Kept SetStage). x.0) (same_Some _ _ (sym opened.there ∙ here))
-
-  stage_read : (stage : SetStage) → read.1 ≡ Some stage → opened.kept ≡ stage
-  stage_read stage e = same_Some _ _ (ap (λ (x : Kept SetStage). x.1) (same_Some _ _ (sym opened.there ∙ here)) ∙ e)
-
-  batch_read : (loaded read_loaded : LoadedBatch) → slice_get p.batches.items opened.set.batch ≡ Some loaded → read_loaded ≡ get_or p.batches.items read.0.batch read_loaded → slice_get p.batches.items opened.set.batch ≡ Some read_loaded
-  batch_read loaded read_loaded there is =
-      slice_get_read p.batches.items (length p.batches.items) opened.set.batch read_loaded refl (slice_get_within p.batches.items opened.set.batch loaded there)
-      (is ∙ ap (λ (s : SetId). get_or p.batches.items s.batch read_loaded) (sym set_read))
 
 pub index-loaded-requires : goal.index-loaded-requires
 index-loaded-requires c =
@@ -53,9 +41,9 @@ open_set-requires-clause-txns c =
     let read = c.index-loaded.result.now in
     let there = batch_read p c.args.at c.requires.open c.get.result.now c.get.ensures l.0 read l.1 c.index-loaded.ensures in
     let kept : c.requires.open.kept ≡ Waiting c.in-Waiting.txns = stage_read p c.args.at c.requires.open c.get.result.now c.get.ensures c.in-Some.stage c.in-Some.is ∙ c.in-Waiting.is in
-    c.as_slice.ensures
-    ∙ txns_are c.requires.keeps.job p c.requires.keeps.keeps c.args.at c.requires.open read there c.in-Waiting.txns kept
-    ∙ ap (λ (s : SetId). (set_of p.pieces read.batch.first read.batch.txns s.block).txns) (set_read p c.args.at c.requires.open c.get.result.now c.get.ensures)
+    subst (λ (s : SetId). IsRest (set_of p.pieces read.batch.first read.batch.txns s.block).txns c.as_slice.result.now) (set_read p c.args.at c.requires.open c.get.result.now c.get.ensures)
+    (subst (λ (ts : List ℕ). IsRest (set_of p.pieces read.batch.first read.batch.txns c.requires.open.set.block).txns ts) (sym c.as_slice.ensures)
+    (txns_are c.requires.keeps.job p c.requires.keeps.keeps c.args.at c.requires.open read there c.in-Waiting.txns kept))
 
 pub open_set-requires-clause-inputs : goal.open_set-requires-clause-inputs
 open_set-requires-clause-inputs c =

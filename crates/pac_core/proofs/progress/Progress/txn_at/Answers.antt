@@ -8,7 +8,7 @@ use Rattle.pac_core.proofs.progress.Progress.txn_at.Goals as goal
 pub returns : goal.returns
 returns c =
     let items = c.args.self.now.batches.items in
-    let at = c.requires.1.txn in
+    let at = c.requires.txn in
     let there = slice_get_read items (length items) c.args.place.batch c.index.result.now refl (slice_get_within items c.args.place.batch at.loaded at.there) c.index.ensures in
     let same : at.loaded ≡ c.index.result.now = same_Some _ _ (sym at.there ∙ there) in (
       c.index.result.now,
