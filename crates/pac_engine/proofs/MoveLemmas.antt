@@ -37,7 +37,7 @@ some_same x y e = cc
 
 -- the reply to a request that asks for a transaction
 answer-txn : (asked : Request) (now : Open) (txn : Txn) → txn_of asked ≡ Some txn → answer (rules_of now) (state_now now) asked ≡ reply_by (state_now now) (txn_outcome (rules_of now) now.tables txn)
-answer-txn (request.Call proc args) now txn is = ap (λ (x : Txn). reply_by (state_now now) (txn_outcome (rules_of now) now.tables x)) (some_same _ txn is)
+answer-txn (request.Call call) now txn is = ap (λ (x : Txn). reply_by (state_now now) (txn_outcome (rules_of now) now.tables x)) (some_same _ txn is)
 answer-txn (request.AdHoc records) now txn is = ap (λ (x : Txn). reply_by (state_now now) (txn_outcome (rules_of now) now.tables x)) (some_same _ txn is)
 answer-txn request.Flush now txn is = absurd (cc is)
 answer-txn (request.Show table key) now txn is = absurd (cc is)
@@ -153,7 +153,7 @@ working-more e more other is = record {
 }
 
 pub working-answered : (e : EngineParts) (asked : Request) → txn_of asked ≡ None → (asked ≡ request.Save → ⊥) → IsWorking e → IsWorking (with_request asked e)
-working-answered e (request.Call proc args) none unsaved is = absurd (cc none)
+working-answered e (request.Call call) none unsaved is = absurd (cc none)
 working-answered e (request.AdHoc records) none unsaved is = absurd (cc none)
 working-answered e request.Flush none unsaved is = working-more e [] tt is
 working-answered e (request.Show table key) none unsaved is = working-more e (answer (rules_of e.session) (state_now e.session) (request.Show table key)) (tt, tt) is

@@ -155,7 +155,7 @@ module _ (text : List ℕ) (history : List Txn) (e : EngineParts) (asked : Reque
 -- ---- a transaction that opens a new group
 
 not-closing : (asked : Request) (txn : Txn) → txn_of asked ≡ Some txn → is_closing asked ≡ false
-not-closing (request.Call proc args) txn is = refl
+not-closing (request.Call call) txn is = refl
 not-closing (request.AdHoc records) txn is = refl
 not-closing request.Flush txn is = absurd (cc is)
 not-closing (request.Show table key) txn is = refl
@@ -164,7 +164,7 @@ not-closing request.Stop txn is = absurd (cc is)
 not-closing (request.Refused fault) txn is = refl
 
 one-answer : (r : Rules) (state : SessionState) (asked : Request) (txn : Txn) → txn_of asked ≡ Some txn → length (answer r state asked ++ []) ≤ 1
-one-answer r state (request.Call proc args) txn is = omega (arith, one-reply state (txn_outcome r state.tables (Call (record { proc = proc; args = args }))), length-append (answer r state (request.Call proc args)) [])
+one-answer r state (request.Call call) txn is = omega (arith, one-reply state (txn_outcome r state.tables (Call call)), length-append (answer r state (request.Call call)) [])
 one-answer r state (request.AdHoc records) txn is = omega (arith, one-reply state (txn_outcome r state.tables (AdHoc records)), length-append (answer r state (request.AdHoc records)) [])
 one-answer r state request.Flush txn is = absurd (cc is)
 one-answer r state (request.Show table key) txn is = absurd (cc is)

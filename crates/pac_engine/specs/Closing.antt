@@ -134,7 +134,7 @@ CountsFault NoMemory before now = now ≡ before
 
 -- the request ends the engine
 abbrev pub is_stop : Request → Bool
-is_stop (request.Call proc args) = false
+is_stop (request.Call call) = false
 is_stop (request.AdHoc records) = false
 is_stop request.Flush = false
 is_stop (request.Show table key) = false

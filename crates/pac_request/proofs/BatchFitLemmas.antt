@@ -57,7 +57,7 @@ PartsFit catalogue parts = AllByRecursion (AllFit catalogue) parts
 
 asked_fit : (catalogue : CatalogueState) (asked : Option Request) (more : List ScriptStep) → AskedFits catalogue asked → StepsFit catalogue more → StepsFit catalogue (asked_in asked more)
 asked_fit catalogue None more h rest = rest
-asked_fit catalogue (Some (request.Call proc args)) more h rest = (h, rest)
+asked_fit catalogue (Some (request.Call call)) more h rest = (h, rest)
 asked_fit catalogue (Some (request.AdHoc records)) more h rest = (h, rest)
 asked_fit catalogue (Some request.Flush) more h rest = (tt, rest)
 asked_fit catalogue (Some (request.Show table key)) more h rest = rest
@@ -156,7 +156,7 @@ runs_total (Flush ∷ more) = let rest = runs_total more in omega (arith, rest)
 
 asked_few : (asked : Option Request) (more : List ScriptStep) → length (asked_in asked more) ≤ length more + 1
 asked_few None more = omega arith
-asked_few (Some (request.Call proc args)) more = omega arith
+asked_few (Some (request.Call call)) more = omega arith
 asked_few (Some (request.AdHoc records)) more = omega arith
 asked_few (Some request.Flush) more = omega arith
 asked_few (Some (request.Show table key)) more = omega arith

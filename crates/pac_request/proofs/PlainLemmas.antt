@@ -218,7 +218,7 @@ args_fit catalogue text number proc rest vs called has few =
     (omega (arith, few, sym (length-map vs type_of) ∙ ap (λ (x : List Ty). length x) all.are ∙ length-map proc.params (λ column. column.ty)), all.stored)
 
 pub call_asked : (catalogue : CatalogueState) (text : List ℕ) (number : ℕ) (proc : Proc) (rest : List ℕ) (vs : List Value) → IsCalled catalogue text number proc rest → HasArguments (types proc.params) rest vs
-    → AsksPlainly catalogue text (request.Call number vs)
+    → AsksPlainly catalogue text (request.Call (record { proc = number; args = vs }))
 unfolding asked_call line_run said_at_end
 call_asked catalogue text number proc rest vs called has =
     let args = ended catalogue text number proc rest vs called has in

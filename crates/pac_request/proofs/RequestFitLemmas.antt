@@ -109,12 +109,12 @@ call_fits : (catalogue : CatalogueState) (name : NameNode) (ls : List PlacedLite
 unfolding asked_call
 call_fits catalogue name ls r e =
     let p = bind_ok (proc_at catalogue.procs name)
-    (λ p. counted_literals name (types p.1.params) ls >>= λ counted. asked_values (types p.1.params) counted >>= λ args. Ok (request.Call p.0 args)) r e in
-    let k = bind_ok (counted_literals name (types p.0.1.params) ls) (λ counted. asked_values (types p.0.1.params) counted >>= λ args. Ok (request.Call p.0.0 args)) r p.2 in
-    let v = bind_ok (asked_values (types p.0.1.params) k.0) (λ args. Ok (request.Call p.0.0 args)) r k.2 in
+    (λ p. counted_literals name (types p.1.params) ls >>= λ counted. asked_values (types p.1.params) counted >>= λ args. Ok (request.Call (record { proc = p.0; args = args }))) r e in
+    let k = bind_ok (counted_literals name (types p.0.1.params) ls) (λ counted. asked_values (types p.0.1.params) counted >>= λ args. Ok (request.Call (record { proc = p.0.0; args = args }))) r p.2 in
+    let v = bind_ok (asked_values (types p.0.1.params) k.0) (λ args. Ok (request.Call (record { proc = p.0.0; args = args }))) r k.2 in
     let counted = counted_are name (types p.0.1.params) ls k.0 k.1 in
     let fit = values_fit (types p.0.1.params) ls v.0 counted.same (ap (asked_values (types p.0.1.params)) counted.are ∙ v.1) in
-    subst (RequestFits catalogue) (ok_is (request.Call p.0.0 v.0) r v.2)
+    subst (RequestFits catalogue) (ok_is (request.Call (record { proc = p.0.0; args = v.0 })) r v.2)
     (fits_there catalogue.procs p.0.0 p.0.1 v.0 (proc_there catalogue.procs name p.0 p.1) fit.are)
 
 put_fits : (tables : List Table) (name : NameNode) (key : PlacedLiteral) (ls : List PlacedLiteral) (c : Change) → asked_put tables name key ls ≡ Ok c → ChangeFits (map shape tables) c

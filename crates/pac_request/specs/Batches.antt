@@ -16,7 +16,7 @@ use Rattle.pac_request.specs.declared.step.ScriptStep.TheVariants.{Add, Flush}
 
 -- a call and ad hoc records are transactions; a flush ends a batch; nothing else is for scripts
 abbrev pub step_of : Request → Option ScriptStep
-step_of (request.Call proc args) = Some (Add (Call (record { proc = proc; args = args })))
+step_of (request.Call call) = Some (Add (Call call))
 step_of (request.AdHoc records) = Some (Add (AdHoc records))
 step_of request.Flush = Some Flush
 step_of _ = None

@@ -11,7 +11,7 @@ use Rattle.pac_request.specs.declared.request.Request.TheVariants as request
 -- A call is of one of the catalogue's procedures and its arguments have the types of the parameters; each record fits its
 -- table; and the key of a row that is shown has the type of the keys of its table, which is there.
 abbrev pub RequestFits : CatalogueState → Request → Type 0
-RequestFits catalogue (request.Call proc args) = FitsCall catalogue.procs proc args
+RequestFits catalogue (request.Call call) = FitsCall catalogue.procs call.proc call.args
 RequestFits catalogue (request.AdHoc records) = RecordsFit (map shape catalogue.tables) records
 RequestFits catalogue (request.Show table key) = IsSomeAnd (slice_get (map shape catalogue.tables) table) (KeyFits key)
 RequestFits catalogue _ = Unit {0}

@@ -74,7 +74,7 @@ unfoldable pub asked_call : List Proc → NameNode → List PlacedLiteral → Re
 asked_call procs name ls = proc_at procs name
     >>= λ p. counted_literals name (types p.1.params) ls
     >>= λ counted. asked_values (types p.1.params) counted
-    >>= λ args. Ok (request.Call p.0 args)
+    >>= λ args. Ok (request.Call (record { proc = p.0; args = args }))
 
 -- a put: its table, the number of values, the key, and then each value of its column's type
 unfoldable pub asked_put : List Table → NameNode → PlacedLiteral → List PlacedLiteral → Result Change LineFault

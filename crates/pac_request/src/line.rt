@@ -72,10 +72,7 @@ pub fn read_line(
         return Err(refused(MAX_LINE, LineFaultKind::TooLong));
     }
     if let Some(call) = plain_call(alloc, catalogue, line)? {
-        return Ok(Some(Request::Call {
-            proc: call.proc,
-            args: call.args,
-        }));
+        return Ok(Some(Request::Call(call)));
     }
     let lexed = lex(alloc, line)?;
     answer_of(alloc, catalogue, &lexed, line.len())
@@ -126,10 +123,7 @@ pub fn read_script_line(
         return Err(refused(MAX_LINE, LineFaultKind::TooLong));
     }
     if let Some(call) = plain_call(alloc, catalogue, line)? {
-        return Ok(Some(Request::Call {
-            proc: call.proc,
-            args: call.args,
-        }));
+        return Ok(Some(Request::Call(call)));
     }
     let lexed = lex(alloc, line)?;
     if let Some(at) = out_of_place(&lexed.items) {

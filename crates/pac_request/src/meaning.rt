@@ -15,7 +15,7 @@ use crate::fault::{LineFault, LineFaultKind};
 use crate::node::{LineNode, PlacedLiteral, RecordNode};
 use crate::request::Request;
 use pac_base::Refusal;
-use pac_ops::{Args, Change, Records};
+use pac_ops::{Args, Call, Change, Records};
 use pac_syntax::NameNode;
 use pac_types::{Catalogue, Column, Proc, Table};
 use pac_value::{Key, Row, Ty, Value};
@@ -160,7 +160,7 @@ fn call_of(
     count(name, params, literals)?;
     let args = stored_values(alloc, params, literals)?;
     let args = Args::of(args);
-    Ok(Request::Call { proc: number, args })
+    Ok(Request::Call(Call { proc: number, args }))
 }
 
 #[tactic(auto, unfolding(crate::specs::RequestMeaning::asked_put))]

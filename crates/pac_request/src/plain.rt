@@ -169,7 +169,7 @@ pub(crate) fn plain_call(
     catalogue: &Catalogue,
     line: &[u8],
 ) -> Result<Option<Call>, NoMemory>
-    ensures { IfOk result (λ found. IfSome found (λ call. AsksPlainly catalogue.now line.now (ACall call.proc call.args))) }
+    ensures { IfOk result (λ found. IfSome found (λ call. AsksPlainly catalogue.now line.now (ACall call))) }
 {
     let Some((proc, called, after)) = called(catalogue, line) else {
         return Ok(None);

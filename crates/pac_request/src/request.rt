@@ -1,14 +1,14 @@
 // What people ask.
 use crate::fault::LineFault;
 use pac_base::{Rule, Ruled};
-use pac_ops::{Args, Reason, Records};
+use pac_ops::{Call, Reason, Records};
 use pac_value::{Key, Row};
 
 /// What a line asks.
 #[derive(Drop)]
 pub enum Request {
     /// The call of a procedure, by its number.
-    Call { proc: u16, args: Args },
+    Call(Call),
     /// Changes that no procedure makes.
     AdHoc { records: Records },
     /// To close the batch.

@@ -3,7 +3,7 @@ ghost use Rattle.std.specs.Prelude.{◌≡◌};
 ghost use Rattle.pac_request.specs.Batches.{step_of};
 
 use crate::request::Request;
-use pac_ops::{Call, Txn};
+use pac_ops::Txn;
 
 /// A transaction, or the end of the batch that is open.
 #[derive(Drop)]
@@ -17,7 +17,7 @@ pub(crate) fn step_of(request: Request) -> Option<ScriptStep>
     ensures { result ≡ step_of request }
 {
     match request {
-        Request::Call { proc, args } => Some(ScriptStep::Add(Txn::Call(Call { proc, args }))),
+        Request::Call(call) => Some(ScriptStep::Add(Txn::Call(call))),
         Request::AdHoc { records } => Some(ScriptStep::Add(Txn::AdHoc { records })),
         Request::Flush => Some(ScriptStep::Flush),
         Request::Show { .. } | Request::Save | Request::Stop | Request::Refused(_) => None,

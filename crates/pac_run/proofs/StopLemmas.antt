@@ -222,7 +222,7 @@ never-stops (r ∷ []) none = tt
 never-stops (r ∷ next ∷ requests) none = (none.0, never-stops (next ∷ requests) none.1)
 
 pub stop-is : (asked : Request) → is_stop asked ≡ true → asked ≡ request.Stop
-stop-is (request.Call proc args) is = absurd cc
+stop-is (request.Call call) is = absurd cc
 stop-is (request.AdHoc records) is = absurd cc
 stop-is request.Flush is = absurd cc
 stop-is (request.Show table key) is = absurd cc

@@ -22,7 +22,7 @@ pub record GroupCut : Type 0 where
 
 -- a flush, a save and a stop close the group that they are in
 abbrev pub is_closing : Request → Bool
-is_closing (request.Call proc args) = false
+is_closing (request.Call call) = false
 is_closing (request.AdHoc records) = false
 is_closing request.Flush = true
 is_closing (request.Show table key) = false

@@ -51,7 +51,7 @@ reply_by state (Err NoMemory) = []
 
 -- the transaction that a request asks for, if any
 abbrev pub txn_of : Request → Option Txn
-txn_of (request.Call proc args) = Some (Call (record { proc = proc; args = args }))
+txn_of (request.Call call) = Some (Call call)
 txn_of (request.AdHoc records) = Some (AdHoc records)
 txn_of request.Flush = None
 txn_of (request.Show table key) = None
@@ -77,7 +77,7 @@ state_after rules state asked = after_asked rules state (txn_of asked)
 
 -- the reply to a request, if any
 abbrev pub answer : Rules → SessionState → Request → List Reply
-answer rules state (request.Call proc args) = reply_by state (txn_outcome rules state.tables (Call (record { proc = proc; args = args })))
+answer rules state (request.Call call) = reply_by state (txn_outcome rules state.tables (Call call))
 answer rules state (request.AdHoc records) = reply_by state (txn_outcome rules state.tables (AdHoc records))
 answer rules state request.Flush = []
 answer rules state (request.Show table key) = Shown table key (map.get state.tables (table, key)) ∷ []
@@ -107,7 +107,7 @@ committed rules state (asked ∷ more) = commits rules state asked ++ committed 
 -- the requests up to the first stop; what stands after it is not looked at
 abbrev pub up_to_stop : List Request → List Request
 up_to_stop [] = []
-up_to_stop (request.Call proc args ∷ more) = request.Call proc args ∷ up_to_stop more
+up_to_stop (request.Call call ∷ more) = request.Call call ∷ up_to_stop more
 up_to_stop (request.AdHoc records ∷ more) = request.AdHoc records ∷ up_to_stop more
 up_to_stop (request.Flush ∷ more) = request.Flush ∷ up_to_stop more
 up_to_stop (request.Show table key ∷ more) = request.Show table key ∷ up_to_stop more

@@ -2,7 +2,7 @@
 ghost use Rattle.std.specs.Prelude.{◌≡◌, Some, None, IfOk, IfErr};
 ghost use Rattle.pac_session.specs.Session.{txn_of};
 
-use pac_ops::{Call, Txn};
+use pac_ops::Txn;
 use pac_request::Request;
 
 /// The transaction that a request asks for.
@@ -15,7 +15,7 @@ pub fn transaction_of(request: Request) -> Result<Txn, Request>
     ensures other { IfErr result (λ same. (same ≡ request) × (txn_of request ≡ None)) }
 {
     match request {
-        Request::Call { proc, args } => Ok(Txn::Call(Call { proc, args })),
+        Request::Call(call) => Ok(Txn::Call(call)),
         Request::AdHoc { records } => Ok(Txn::AdHoc { records }),
         other => Err(other),
     }

@@ -16,11 +16,11 @@ pub returns-then-line-gt-MAX_LINE-clause-only : goal.returns-then-line-gt-MAX_LI
 returns-then-line-gt-MAX_LINE-clause-only c = λ answer says. rw c.refused.ensures (line_once c.args.catalogue.now c.args.line.now answer _ says (inl (omega (arith, c.if-line-gt-MAX_LINE.true), refl)))
 
 pub returns-in-Some-clause-says : goal.returns-in-Some-clause-says
-returns-in-Some-clause-says c = plain_says c.args.catalogue.now c.args.line.now (request.Call c.in-Some.call.proc c.in-Some.call.args) (omega (arith, c.if-line-gt-MAX_LINE.false)) (rw c.in-Some.is at c.in_ok-call.ensures)
+returns-in-Some-clause-says c = plain_says c.args.catalogue.now c.args.line.now (request.Call c.in-Some.call) (omega (arith, c.if-line-gt-MAX_LINE.false)) (rw c.in-Some.is at c.in_ok-call.ensures)
 
 pub returns-in-Some-clause-only : goal.returns-in-Some-clause-only
 returns-in-Some-clause-only c = λ answer says. line_once c.args.catalogue.now c.args.line.now answer _ says
-    (plain_says c.args.catalogue.now c.args.line.now (request.Call c.in-Some.call.proc c.in-Some.call.args) (omega (arith, c.if-line-gt-MAX_LINE.false)) (rw c.in-Some.is at c.in_ok-call.ensures))
+    (plain_says c.args.catalogue.now c.args.line.now (request.Call c.in-Some.call) (omega (arith, c.if-line-gt-MAX_LINE.false)) (rw c.in-Some.is at c.in_ok-call.ensures))
 
 pub returns-in-Some-clause-fits : goal.returns-in-Some-clause-fits
-returns-in-Some-clause-fits c = plain_fits c.args.catalogue.now c.args.line.now (request.Call c.in-Some.call.proc c.in-Some.call.args) (rw c.in-Some.is at c.in_ok-call.ensures)
+returns-in-Some-clause-fits c = plain_fits c.args.catalogue.now c.args.line.now (request.Call c.in-Some.call) (rw c.in-Some.is at c.in_ok-call.ensures)
