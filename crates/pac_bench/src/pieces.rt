@@ -6,7 +6,7 @@ use pac_global::catalogue_plan;
 use pac_keys::{PlanCode, arguments, has_arguments};
 use pac_ops::{Batch, Txn, Txns};
 use pac_plan::{Access, Touch};
-use pac_request::stress_txn;
+use pac_script::stress_txn;
 use pac_stress::bank_catalogue;
 use pac_value::Key;
 use std::alloc::Global;

@@ -5,7 +5,7 @@ use Rattle.std.specs.Int.{w32, to_le_bytes}
 use Rattle.pac_ops.specs.declared.transaction.Txn.{Txn}
 use Rattle.pac_bytes.proofs.Numbers.{width32}
 use Rattle.pac_entry.specs.Entries.{txn_bytes}
-use Rattle.pac_request.specs.Batches.{body_len}
+use Rattle.pac_script.specs.Batches.{body_len}
 use Rattle.pac_log.specs.declared.position.NextGate.{NextGate}
 use Rattle.pac_log.specs.Bodies.{body_bytes, entries_bytes}
 use Rattle.pac_session.specs.Groups.{place_after_group}

@@ -8,8 +8,8 @@ use Rattle.pac_ops.specs.declared.transaction.Txn.{Txn}
 use Rattle.pac_serial.specs.declared.serial.AllError.{AllError}
 use Rattle.pac_serial.specs.declared.serial.AllError.TheVariants.{Abort, NoMemory}
 use Rattle.pac_recover.specs.Gates.{RunOn, txns_in}
-use Rattle.pac_request.specs.Batches.{as_batches}
-use Rattle.pac_request.specs.RequestFits.{BatchesHaveNumbers}
+use Rattle.pac_script.specs.Batches.{as_batches}
+use Rattle.pac_script.specs.BatchFits.{BatchesHaveNumbers}
 use Rattle.pac_main.specs.Replay.{DoesEnd}
 
 made : (before : ℕ) (parts : List (List Txn)) → RunOn before (as_batches (before + 1) parts)

@@ -17,11 +17,11 @@ use Rattle.pac_base.specs.declared.refusal.Refusal.{Refusal}
 use Rattle.pac_base.specs.declared.refusal.Refusal.TheVariants as refusal
 use Rattle.pac_outside.specs.declared.failed.ReadError.{ReadError}
 use Rattle.pac_outside.specs.declared.failed.ReadError.TheVariants as read
-use Rattle.pac_request.specs.declared.script_fault.ScriptFault.{ScriptFault}
-use Rattle.pac_request.specs.declared.script_fault.ScriptFault.TheVariants.{Catalogue, TooManyOps, Line}
-use Rattle.pac_request.specs.Script.{IsPartsFault}
-use Rattle.pac_request.specs.ScriptReading.{IsExcessFault}
-use Rattle.pac_request.proofs.OneScript.{faults_once, few_or_excess}
+use Rattle.pac_script.specs.declared.script_fault.ScriptFault.{ScriptFault}
+use Rattle.pac_script.specs.declared.script_fault.ScriptFault.TheVariants.{Catalogue, TooManyOps, Line}
+use Rattle.pac_script.specs.Script.{IsPartsFault}
+use Rattle.pac_script.specs.ScriptReading.{IsExcessFault}
+use Rattle.pac_script.proofs.OneScript.{faults_once, few_or_excess}
 use Rattle.pac_main.specs.Causes.{GivesNoExplanation}
 use Rattle.pac_main.specs.Inputs.{input_of_read, input_of_script}
 use Rattle.pac_main.specs.Streams.{Observed, AnyFaulted}

@@ -16,9 +16,9 @@ use Rattle.pac_store.specs.Made.{IsInUse}
 use Rattle.pac_store.specs.declared.device.DeviceName.{DeviceName}
 use Rattle.pac_store.specs.declared.errors.MakeError.{MakeError}
 use Rattle.pac_store.specs.declared.errors.MakeError.TheVariants.{NotEmpty, DiskFault, NoMemory}
-use Rattle.pac_request.specs.declared.script_fault.ScriptFault.{ScriptFault}
-use Rattle.pac_request.specs.declared.script_fault.ScriptFault.TheVariants.{Catalogue, TooManyOps, Line}
-use Rattle.pac_request.proofs.OneScript.{few_or_excess}
+use Rattle.pac_script.specs.declared.script_fault.ScriptFault.{ScriptFault}
+use Rattle.pac_script.specs.declared.script_fault.ScriptFault.TheVariants.{Catalogue, TooManyOps, Line}
+use Rattle.pac_script.proofs.OneScript.{few_or_excess}
 use Rattle.pac_main.specs.Causes.{GivesNoText, InitStops}
 use Rattle.pac_main.specs.Explained.{IsUnexplained}
 use Rattle.pac_main.specs.Init.{AreUntouched, IsAcceptedInput, IsNoStoreFor, IsNoStoreText, IsStoreText}

@@ -9,10 +9,10 @@ use Rattle.pac_outside.specs.Content.{Gave, GaveAtMost, IsAtEnd}
 use Rattle.pac_outside.specs.declared.failed.ReadError.{ReadError}
 use Rattle.pac_outside.specs.declared.failed.ReadError.TheVariants as read
 use Rattle.pac_request.specs.Answers.{AnswersBy}
-use Rattle.pac_request.specs.Script.{ScriptSays}
-use Rattle.pac_request.specs.declared.script.Script.{Script}
-use Rattle.pac_request.specs.declared.script_fault.ScriptFault.{ScriptFault}
-use Rattle.pac_request.proofs.OneScript.{script_once}
+use Rattle.pac_script.specs.Script.{ScriptSays}
+use Rattle.pac_script.specs.declared.script.Script.{Script}
+use Rattle.pac_script.specs.declared.script_fault.ScriptFault.{ScriptFault}
+use Rattle.pac_script.proofs.OneScript.{script_once}
 use Rattle.pac_main.specs.Causes.{GivesNoScript}
 use Rattle.pac_main.specs.Inputs.{input_of_read, input_of_script}
 use Rattle.pac_recover.specs.Gates.{RunOn}

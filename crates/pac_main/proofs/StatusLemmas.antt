@@ -1,7 +1,7 @@
 -- The stops of each status.
 use Rattle.std.proofs.Common.{◌≡◌, ◌⊎◌, ℕ, zero, suc, List, inl, inr, refl, subst}
 use Rattle.pac_ops.specs.declared.note.Note.{Note}
-use Rattle.pac_request.specs.declared.script_fault.ScriptFault.{ScriptFault}
+use Rattle.pac_script.specs.declared.script_fault.ScriptFault.{ScriptFault}
 use Rattle.pac_store.specs.declared.device.DeviceName.{DeviceName}
 use Rattle.pac_recover.specs.declared.errors.Damage.{Damage}
 use Rattle.pac_main.specs.Stop.{status_of}

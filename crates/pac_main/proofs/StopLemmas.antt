@@ -4,7 +4,7 @@ use Rattle.std.specs.Prelude.{IsTrue}
 use Rattle.pac_value.specs.State.{Tables}
 use Rattle.pac_recover.specs.Limits.{IsFirstOver}
 use Rattle.pac_recover.specs.declared.limit.TooManyRows.{TooManyRows}
-use Rattle.pac_request.specs.declared.script.Script.{Script}
+use Rattle.pac_script.specs.declared.script.Script.{Script}
 use Rattle.pac_serial.specs.declared.serial.AllError.{AllError}
 use Rattle.pac_serial.specs.declared.serial.AllError.TheVariants as serial
 use Rattle.pac_main.specs.Causes.{GivesNoScript, GivesNoExplanation, GivesNoText, ScriptStops, ReplayStops, ExplainStops, InitStops}

@@ -9,7 +9,7 @@ use Rattle.pac_store.specs.Stands.{StandsFor}
 use Rattle.pac_recover.specs.Limits.{IsFirstOver}
 use Rattle.pac_recover.specs.Recovering.{AbortsIn, IsPrefixOverLimit, IsOverIn}
 use Rattle.pac_recover.specs.Refusals.{HasDamage, HasNoStore, IfImagesKnown}
-use Rattle.pac_request.specs.declared.script.Script.{Script}
+use Rattle.pac_script.specs.declared.script.Script.{Script}
 use Rattle.pac_run.specs.declared.stop.RunStop.{RunStop}
 use Rattle.pac_run.specs.declared.stop.RunStop.TheVariants as run
 use Rattle.pac_stress.specs.Stressed.{AbortsStress, IsSummaryOf}

@@ -17,9 +17,9 @@ use Rattle.pac_slice.specs.Slices.{AreSlices}
 use Rattle.pac_plan.specs.declared.parts.PlanParts.{PlanParts}
 use Rattle.pac_plan.specs.Analysis.{IsPlan}
 use Rattle.pac_report.specs.Explain.{explain_text}
-use Rattle.pac_request.specs.declared.script_fault.ScriptFault.{ScriptFault}
-use Rattle.pac_request.specs.declared.script_fault.ScriptFault.TheVariants.{Catalogue, TooManyOps, Line}
-use Rattle.pac_request.specs.Script.{IsExcess}
+use Rattle.pac_script.specs.declared.script_fault.ScriptFault.{ScriptFault}
+use Rattle.pac_script.specs.declared.script_fault.ScriptFault.TheVariants.{Catalogue, TooManyOps, Line}
+use Rattle.pac_script.specs.Script.{IsExcess}
 use Rattle.pac_main.specs.declared.stop.Stop.TheVariants as stop
 use Rattle.pac_main.specs.Streams.{Observed, AnyFaulted, IsTaken, IsPrefixTaken, IsReported, IsOneOf}
 use Rattle.pac_main.specs.Stop.{line_of}

@@ -5,7 +5,7 @@ use Rattle.pac_types.specs.Typing.{CatalogueState}
 use Rattle.pac_log.specs.Logs.{IsAccepted}
 use Rattle.pac_store.specs.Made.{IsInUse, MakesStore}
 use Rattle.pac_store.specs.declared.device.DeviceName.{DeviceName}
-use Rattle.pac_request.specs.declared.script_fault.ScriptFault.{ScriptFault}
+use Rattle.pac_script.specs.declared.script_fault.ScriptFault.{ScriptFault}
 use Rattle.pac_main.specs.declared.stop.Stop.TheVariants as stop
 use Rattle.pac_main.specs.Explained.{IsUnexplained}
 use Rattle.pac_main.specs.Streams.{Observed, ObservedDevices, AnyFaulted, IsReported, IsOneOf}

@@ -10,9 +10,9 @@ use Rattle.pac_serial.specs.declared.serial.AllError.TheVariants.{Abort, NoMemor
 use Rattle.pac_recover.specs.Limits.{IsFirstOver}
 use Rattle.pac_report.specs.Dump.{tables_text}
 use Rattle.pac_recover.specs.Gates.{txns_in}
-use Rattle.pac_request.specs.declared.script.Script.{Script}
-use Rattle.pac_request.specs.declared.script_fault.ScriptFault.{ScriptFault}
-use Rattle.pac_request.specs.Script.{ScriptSays}
+use Rattle.pac_script.specs.declared.script.Script.{Script}
+use Rattle.pac_script.specs.declared.script_fault.ScriptFault.{ScriptFault}
+use Rattle.pac_script.specs.Script.{ScriptSays}
 use Rattle.pac_run.specs.declared.limits.TheConstants.{MAX_INPUT}
 use Rattle.pac_main.specs.declared.stop.Stop.TheVariants as stop
 use Rattle.pac_main.specs.Streams.{Observed, AnyFaulted, IsTaken, IsPrefixTaken, IsReported, IsOneOf}

@@ -7,8 +7,8 @@ use Rattle.pac_ops.specs.Reasons.{reason_name}
 use Rattle.pac_serial.specs.declared.serial.AllError.{AllError}
 use Rattle.pac_serial.specs.declared.serial.AllError.TheVariants as serial
 use Rattle.pac_request.specs.declared.fault.LineFault.{LineFault}
-use Rattle.pac_request.specs.declared.script_fault.ScriptFault.{ScriptFault}
-use Rattle.pac_request.specs.declared.script_fault.ScriptFault.TheVariants.{Catalogue, TooManyOps, Line}
+use Rattle.pac_script.specs.declared.script_fault.ScriptFault.{ScriptFault}
+use Rattle.pac_script.specs.declared.script_fault.ScriptFault.TheVariants.{Catalogue, TooManyOps, Line}
 use Rattle.pac_request.specs.LineKinds.{line_kind_name}
 use Rattle.pac_store.specs.Made.{device_name}
 use Rattle.pac_store.specs.declared.device.DeviceName.{DeviceName}

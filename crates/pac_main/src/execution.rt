@@ -4,7 +4,7 @@ ghost use Rattle.std.specs.FinMap.{empty};
 ghost use Rattle.pac_types.specs.Execution.{serial};
 ghost use Rattle.pac_types.specs.OperationLimits.{HasFewOperations};
 ghost use Rattle.pac_recover.specs.Gates.{RunOn, txns_in};
-ghost use Rattle.pac_request.specs.RequestFits.{BatchesFit, BatchesHaveNumbers};
+ghost use Rattle.pac_script.specs.BatchFits.{BatchesFit, BatchesHaveNumbers};
 ghost use Rattle.pac_main.specs.Replay.{DoesEnd};
 
 use pac_ops::Batches;

@@ -4,7 +4,7 @@ ghost use Rattle.pac_main.specs.Inputs.{input_of_read, input_of_script};
 
 use pac_base::Refusal;
 use pac_outside::ReadError;
-use pac_request::{ScriptError, ScriptFault};
+use pac_script::{ScriptError, ScriptFault};
 use thiserror::Error;
 
 /// Why a command gets nothing from its input.

@@ -7,7 +7,7 @@ use crate::stop::Stop;
 use pac_check::SlotName;
 use pac_recover::Damage;
 use pac_report::StatusLine;
-use pac_request::ScriptFault;
+use pac_script::ScriptFault;
 use pac_store::DeviceName;
 
 // The line of a refused script.

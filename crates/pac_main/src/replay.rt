@@ -2,7 +2,7 @@
 ghost use Rattle.std.specs.Prelude.{◌≡◌, ◌≢◌, ◌≤◌, ◌+◌, None, IfOk, IfErr, IfSome, OnOk, OnErr, Ok, length};
 ghost use Rattle.pac_outside.specs.Content.{GaveAtMost};
 ghost use Rattle.pac_types.specs.OperationLimits.{HasFewOperations};
-ghost use Rattle.pac_request.specs.RequestFits.{BatchesFit, BatchesHaveNumbers};
+ghost use Rattle.pac_script.specs.BatchFits.{BatchesFit, BatchesHaveNumbers};
 ghost use Rattle.pac_main.specs.Causes.{GivesNoScript, ReplayStops, ScriptStops};
 ghost use Rattle.pac_recover.specs.Gates.{RunOn};
 ghost use Rattle.pac_run.specs.declared.limits.TheConstants.{MAX_INPUT};
@@ -18,8 +18,8 @@ use crate::stop::Stop;
 use pac_outside::{Gate, Sink, Source, read_up_to, write_all};
 use pac_recover::test_rows;
 use pac_report::dump;
-use pac_request::{Script, read_script};
 use pac_run::MAX_INPUT;
+use pac_script::{Script, read_script};
 use pac_tables::HashedRows;
 use pac_types::Catalogue;
 use std::alloc::Global;

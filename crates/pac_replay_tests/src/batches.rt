@@ -1,7 +1,7 @@
 // Where the transactions of a script are cut into batches, and those of the stress test as a script.
 use pac_base::Same;
 use pac_ops::{Batch, Txn};
-use pac_request::{Script, read_script, stress_txn};
+use pac_script::{Script, read_script, stress_txn};
 use std::alloc::{AllocError, Global};
 use std::test::Fail;
 

@@ -2,7 +2,7 @@
 use pac_base::{Boxed, Exact, NoMemory, Rule, Ruled, Same, are_same, copy_of, listed};
 use pac_flat::flatten;
 use pac_ops::{Batch, PieceId, Program};
-use pac_request::{Script, read_script};
+use pac_script::{Script, read_script};
 use pac_value::{Env, Value};
 use std::alloc::Global;
 use std::test::Fail;

@@ -3,7 +3,7 @@ ghost use Rattle.std.specs.Prelude.{◌≡◌, ◌<◌, ◌+◌, ◌^◌, [], le
 ghost use Rattle.std.specs.FinMap.{empty};
 ghost use Rattle.pac_types.specs.OperationLimits.{HasFewOperations};
 ghost use Rattle.pac_commute.specs.PartialFits.{TxnsFitPlan};
-ghost use Rattle.pac_request.specs.RequestFits.{BatchesFit, BatchesHaveNumbers};
+ghost use Rattle.pac_script.specs.BatchFits.{BatchesFit, BatchesHaveNumbers};
 ghost use Rattle.pac_core.specs.Replay.{opening_replay};
 
 use pac_base::Exact;
@@ -12,7 +12,7 @@ use pac_flat::flatten;
 use pac_global::global;
 use pac_ops::Batch;
 use pac_plan::Plan;
-use pac_request::{Script, read_script};
+use pac_script::{Script, read_script};
 use pac_tables::{HashedRows, Rows};
 use pac_types::Catalogue;
 use std::alloc::{AllocError, Global};

@@ -2,7 +2,7 @@
 ghost use Rattle.std.specs.Prelude.{◌<◌, length};
 ghost use Rattle.pac_types.specs.Fits.{FitsCatalogue};
 ghost use Rattle.pac_types.specs.OperationLimits.{HasFewOperations};
-ghost use Rattle.pac_request.specs.RequestFits.{BatchesFit, BatchesHaveNumbers};
+ghost use Rattle.pac_script.specs.BatchFits.{BatchesFit, BatchesHaveNumbers};
 
 use crate::cores::{ADD, core_of, plan_of, script_of};
 use crate::ends::{are_same_rows, outcome_of};
@@ -12,7 +12,7 @@ use pac_core::{Core, Outcome};
 use pac_ops::{Batch, Note};
 use pac_piece::Done;
 use pac_plan::Plan;
-use pac_request::Script;
+use pac_script::Script;
 use pac_serial::{AllError, exec_all, no_rows};
 use pac_tables::{HashedRows, HashedTable, JoinedRows, Rows};
 use pac_types::Catalogue;

@@ -7,8 +7,4 @@ pub mod LineOnce
 pub mod RequestFitLemmas
 pub mod CallWord
 pub mod PlainLemmas
-pub mod LineDivision
-pub mod CutLemmas
-pub mod ReadingLemmas
-pub mod OneScript
-pub mod BatchFitLemmas
+pub mod LineFits

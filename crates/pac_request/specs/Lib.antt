@@ -8,9 +8,3 @@ pub mod LineReading
 pub mod RequestFits
 pub mod ScriptLines
 pub mod PlainCalls
-pub mod Lines
-pub mod Batches
-pub mod Cutting
-pub mod Script
-pub mod ScriptReading
-pub mod Stress

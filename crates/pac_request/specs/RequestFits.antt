@@ -1,9 +1,7 @@
--- Requests and batches that fit a catalogue.
-use Rattle.std.specs.Prelude.{◌+◌, ◌^◌, ◌<◌, List, length, map, slice_get, Option, Some, None, IsSomeAnd}
-use Rattle.std.specs.List.{AllByRecursion}
-use Rattle.pac_ops.specs.declared.batch.Batch.{Batch}
+-- Requests that fit a catalogue.
+use Rattle.std.specs.Prelude.{map, slice_get, Option, Some, None, IsSomeAnd}
 use Rattle.pac_ops.specs.Shapes.{KeyFits, RecordsFit}
-use Rattle.pac_types.specs.Fits.{FitsCall, TxnFits, shape}
+use Rattle.pac_types.specs.Fits.{FitsCall, shape}
 use Rattle.pac_types.specs.Typing.{CatalogueState}
 use Rattle.pac_request.specs.declared.request.Request.{Request}
 use Rattle.pac_request.specs.declared.request.Request.TheVariants as request
@@ -20,10 +18,3 @@ RequestFits catalogue _ = Unit {0}
 abbrev pub AskedFits : CatalogueState → Option Request → Type 0
 AskedFits catalogue None = Unit {0}
 AskedFits catalogue (Some asked) = RequestFits catalogue asked
-
--- each transaction of the batches fits the catalogue, and has a number of 64 bits
-abbrev pub BatchesFit : CatalogueState → List Batch → Type 0
-BatchesFit catalogue batches = AllByRecursion (λ batch. AllByRecursion (TxnFits catalogue) batch.txns) batches
-
-abbrev pub BatchesHaveNumbers : List Batch → Type 0
-BatchesHaveNumbers batches = AllByRecursion (λ batch. batch.first + length batch.txns < 2 ^ 64) batches

@@ -1,11 +1,9 @@
-//! Request lines, one request a line; and scripts: a catalogue and request lines.
+//! Request lines, one request a line.
 //!
 //! - [`read_line`]: what a line asks of a catalogue, a [`Request`] that fits it; nothing, for white space and a
 //!   comment; or its first [`LineFault`], with an offset in the line and one of seven [`LineFaultKind`]s.
 //! - [`read_script_line`]: the same for a line of a script, where `show`, `save` and `stop` are refused.
-//! - [`read_script`]: the [`Script`] that a text is, a catalogue and batches of transactions that fit it; or its first
-//!   [`ScriptFault`].
-//! - [`stress_txn`]: the transactions of the stress test. [`Reply`], [`Replies`]: the answers to requests, as data.
+//! - [`Reply`], [`Replies`]: the answers to requests, as data.
 //!
 //! ```
 //! use pac_request::read_line;
@@ -18,36 +16,23 @@
 //! What a line says is defined in `specs/` without a parser: `LineForms` (derivations with the offset of each token),
 //! `LineFaults` (the first token that can't follow), `RequestMeaning` (what is asked, with the faults of names, counts
 //! and types from left to right), `LineReading` (the line as a whole), `ScriptLines` (the same in a script),
-//! `RequestFits` (requests that fit a catalogue) and `LineKinds` (how kinds are printed). A script is defined by
-//! `Lines` (the lines of a text, and the `---`), `Batches` (between flushes, each batch is the longest prefix that
-//! fits) and `Script` (the whole, with its first fault). What a line or a script says is what is returned, and nothing
-//! else, but for out of memory (`says`, `only`).
+//! `RequestFits` (requests that fit a catalogue) and `LineKinds` (how kinds are printed). What a line says is what is
+//! returned, and nothing else, but for out of memory (`says`, `only`).
 //!
-//! The parser is proved against a machine that takes one token at a time (`specs/LineSteps.antt`), scripts against a
-//! definition that takes one line at a time (`specs/Cutting.antt`, `specs/ScriptReading.antt`); no public clause names
-//! these. A call whose arguments are texts and ints without a `-`, as most lines are, is read from its bytes without a
+//! The parser is proved against a machine that takes one token at a time (`specs/LineSteps.antt`); no public clause names it. A call whose arguments are texts and ints without a `-`, as most lines are, is read from its bytes without a
 //! list of tokens: `specs/PlainCalls.antt` defines that, and `proofs/PlainLemmas.antt` shows that both readings agree.
 #![tactic(auto)]
 
-mod batcher;
 mod fault;
 mod limits;
 mod line;
-mod lines;
 mod meaning;
 mod node;
 mod parser;
 mod plain;
 mod request;
-mod script;
-mod script_fault;
-mod step;
-mod stress;
 
 pub use fault::{LineFault, LineFaultKind};
 pub use limits::MAX_LINE;
 pub use line::{read_line, read_script_line};
 pub use request::{Replies, RepliesRule, Reply, Request};
-pub use script::{Script, read_script};
-pub use script_fault::{ScriptError, ScriptFault};
-pub use stress::stress_txn;

@@ -12,7 +12,7 @@ use Rattle.pac_types.specs.OperationLimits.{HasFewOperations}
 use Rattle.pac_types.specs.Fits.{FitsCatalogue, TxnFits}
 use Rattle.pac_types.specs.Typing.{CatalogueState}
 use Rattle.pac_entry.specs.declared.limits.TheConstants.{MAX_BODY_LEN}
-use Rattle.pac_request.specs.Batches.{body_len}
+use Rattle.pac_script.specs.Batches.{body_len}
 use Rattle.pac_request.specs.declared.request.Request.{Request}
 use Rattle.pac_request.specs.declared.request.Reply.{Reply}
 use Rattle.pac_request.specs.contracts.request.Reply as reply_type

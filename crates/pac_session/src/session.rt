@@ -7,7 +7,7 @@ ghost use Rattle.pac_types.specs.Execution.{first_over};
 ghost use Rattle.pac_types.specs.OperationLimits.{HasFewOperations};
 ghost use Rattle.pac_types.specs.Fits.{FitsCatalogue, TxnFits};
 ghost use Rattle.pac_entry.specs.declared.limits.TheConstants.{MAX_BODY_LEN};
-ghost use Rattle.pac_request.specs.Batches.{body_len};
+ghost use Rattle.pac_script.specs.Batches.{body_len};
 ghost use Rattle.pac_request.specs.declared.request.Request.{Request as ARequest};
 ghost use Rattle.pac_request.specs.declared.request.Reply.{Reply as AReply};
 ghost use Rattle.pac_request.specs.RequestFits.{RequestFits};

@@ -21,7 +21,7 @@ use Rattle.pac_syntax.specs.declared.tree.ExprNode.{ExprNode, Literal, Name, Bin
 use Rattle.pac_syntax.specs.declared.tree.ExprNode.TheOpen as form
 use Rattle.pac_syntax.specs.declared.tree.StmtNode.{StmtNode, Read, Put, If}
 use Rattle.pac_syntax.specs.declared.tree.ProcNode.{ProcNode}
-use Rattle.pac_request.specs.Stress.{number}
+use Rattle.pac_script.specs.Stress.{number}
 use Rattle.pac_syntax.proofs.NodeForms.{fold-Literal, fold-Name, fold-Binary}
 use Rattle.pac_syntax.proofs.NodeForms.{fold-Read as node-Read, fold-Put as node-Put, fold-If as node-If}
 use Rattle.pac_syntax.proofs.Trees.{tree-within}

@@ -4,7 +4,7 @@ use Rattle.std.proofs.lemmas.List.FromFn.{length-map-range_with_len, map-range_w
 use Rattle.pac_ops.specs.declared.batch.Batch.{Batch}
 use Rattle.pac_ops.specs.declared.transaction.Txn.{Txn}
 use Rattle.pac_recover.specs.Gates.{RunOn, txns_in}
-use Rattle.pac_request.specs.Stress.{stress_txn}
+use Rattle.pac_script.specs.Stress.{stress_txn}
 use Rattle.pac_stress.specs.StressBatches.{last_batch, stress_batch, stress_batches, stress_txns, whole_batch, whole_batches}
 
 -- ---- transactions from a number on

@@ -8,7 +8,7 @@ use Rattle.pac_types.specs.declared.table.Table.{Table}
 use Rattle.pac_types.specs.declared.procedure.Proc.{Proc}
 use Rattle.pac_types.specs.declared.statement.Stmt.{Read, Put, If}
 use Rattle.pac_types.specs.Typing.{CatalogueState}
-use Rattle.pac_request.specs.Stress.{number}
+use Rattle.pac_script.specs.Stress.{number}
 
 -- a column or a parameter of ints
 abbrev pub int_named : List ℕ → Column

@@ -3,7 +3,7 @@ use Rattle.std.specs.Prelude.{ℕ, zero, suc, ◌+◌, ◌*◌, ◌/◌, ◌%◌
 use Rattle.std.specs.List.{range_with_len}
 use Rattle.pac_ops.specs.declared.batch.Batch.{Batch}
 use Rattle.pac_ops.specs.declared.transaction.Txn.{Txn}
-use Rattle.pac_request.specs.Stress.{stress_txn}
+use Rattle.pac_script.specs.Stress.{stress_txn}
 
 -- that many transactions, from a number on
 abbrev pub stress_txns : ℕ → ℕ → List Txn

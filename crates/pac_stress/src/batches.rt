@@ -5,7 +5,7 @@ ghost use Rattle.pac_stress.specs.StressBatches.{stress_batch, stress_batches, w
 
 use pac_base::{NoMemory, listed};
 use pac_ops::{Batch, Batches, Txns};
-use pac_request::stress_txn;
+use pac_script::stress_txn;
 use std::alloc::Global;
 
 // How many transactions a whole batch has.

@@ -5,7 +5,7 @@ use Rattle.std.proofs.lemmas.Option.{slice_get-get_or}
 use Rattle.pac_types.specs.declared.procedure.Proc.{Proc}
 use Rattle.pac_types.specs.OperationLimits.{IsFirstExcess}
 use Rattle.pac_flat.proofs.ExcessLemmas.{excess_within}
-use Rattle.pac_request.specs.Script.{IsExcess}
+use Rattle.pac_script.specs.Script.{IsExcess}
 use Rattle.pac_main.proofs.explanation.excess_fault.Goals as goal
 
 within : (procs shown : List Proc) (n k count : ℕ) → shown ≡ procs → k ≡ n → IsFirstExcess procs n count → k < length shown

@@ -2,8 +2,8 @@
 use Rattle.std.proofs.Common.{Ok, Err, sym, subst, List, ℕ}
 use Rattle.std.proofs.lemmas.Result.{err_from_is_err_and}
 use Rattle.pac_request.specs.Answers.{AnswersBy}
-use Rattle.pac_request.specs.Script.{ScriptSays}
-use Rattle.pac_request.specs.declared.script.Script.{Script}
+use Rattle.pac_script.specs.Script.{ScriptSays}
+use Rattle.pac_script.specs.declared.script.Script.{Script}
 use Rattle.pac_main.specs.Causes.{GivesNoScript}
 use Rattle.pac_main.specs.Replay.{IsReadAs}
 use Rattle.pac_main.specs.Streams.{observed}

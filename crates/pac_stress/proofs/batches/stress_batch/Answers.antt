@@ -1,6 +1,6 @@
 -- One transaction more.
 use Rattle.std.proofs.Common.{◌≡◌, ◌+◌, ℕ, [], ◌∷◌, ◌++◌, length, ap, sym, ◌∙◌, arith}
-use Rattle.pac_request.specs.Stress.{stress_txn}
+use Rattle.pac_script.specs.Stress.{stress_txn}
 use Rattle.pac_stress.proofs.BatchRuns.{txns-long, txns_more}
 use Rattle.pac_stress.proofs.batches.stress_batch.Goals as goal
 

@@ -1,0 +1,5 @@
+pub mod LineDivision
+pub mod CutLemmas
+pub mod ReadingLemmas
+pub mod OneScript
+pub mod BatchFitLemmas

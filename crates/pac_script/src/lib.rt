@@ -1,0 +1,29 @@
+//! Scripts: a catalogue and request lines.
+//!
+//! - [`read_script`]: the [`Script`] that a text is, a catalogue and batches of transactions that fit it; or its first
+//!   [`ScriptFault`].
+//! - [`stress_txn`]: the transactions of the stress test.
+//!
+//! ```
+//! use pac_script::read_script;
+//!
+//! let script = read_script(alloc, b"table T(key int, v int);\n---\nadhoc put T[1] = (5)\n")?;
+//! let batches = script.batches; // one, of one transaction with number 1
+//! ```
+//!
+//! What a text says as a script is defined by `Lines` (the lines of a text, and the `---`), `Batches` (between flushes, each
+//! batch is the longest prefix that fits) and `Script` (the whole, with its first fault). What it says is what is returned, and
+//! nothing else, but for out of memory (`says`, `only`). The reading is proved against a definition that takes one line at a
+//! time (`specs/Cutting.antt`, `specs/ScriptReading.antt`); no public clause names these.
+#![tactic(auto)]
+
+mod batcher;
+mod lines;
+mod script;
+mod script_fault;
+mod step;
+mod stress;
+
+pub use script::{Script, read_script};
+pub use script_fault::{ScriptError, ScriptFault};
+pub use stress::stress_txn;

@@ -1,0 +1,24 @@
+// Why a text is no script.
+use pac_base::Refusal;
+use pac_request::LineFault;
+use pac_types::CatalogueFault;
+use pac_value::Name;
+use thiserror::Error;
+
+/// Why a text is no script.
+#[derive(Clone, Copy, Debug, PartialEq, Eq, Error)]
+pub enum ScriptFault {
+    /// Its catalogue's text has no catalogue: the first fault of that, of its syntax or else of its names and types.
+    #[error("{0}")]
+    Catalogue(CatalogueFault),
+    /// Its catalogue has too many operations: the first procedure at which these are more than 256, and how many it has; or
+    /// else at which all up to its end are more than 4,096, and how many these are.
+    #[error("{count} operations")]
+    TooManyOps { proc: Name, count: u32 },
+    /// The first line that is refused, by its number after the mark, from 1 on, and its fault.
+    #[error("line {line}: {fault}")]
+    Line { line: usize, fault: LineFault },
+}
+
+/// Why a text isn't read as a script.
+pub type ScriptError = Refusal<ScriptFault>;
