@@ -8,19 +8,19 @@ ghost use Rattle.pac_flat.specs.FlatForm.{program_of};
 ghost use Rattle.pac_print.specs.Canonical.{canonical};
 ghost use Rattle.pac_syntax.specs.Reading.{IsTree};
 ghost use Rattle.pac_types.specs.Fits.{shape};
-ghost use Rattle.pac_types.specs.OperationLimits.{HasFewOperations, IsFirstExcess};
+ghost use Rattle.pac_types.specs.OperationLimits.{HasFewOperations};
 ghost use Rattle.pac_main.specs.Explained.{AreSlicesOf, IsExplanation, IsGraphText, IsTreeExplanation, IsUnexplained, IsUnexplainedTree};
 ghost use Rattle.pac_script.specs.ScriptReading.{IsExcessFault};
 ghost use Rattle.pac_script.specs.declared.script_fault.ScriptFault.{ScriptFault as AFault};
 
 use pac_base::{NoMemory, Refusal};
-use pac_flat::{TooManyOps, flatten};
+use pac_flat::flatten;
 use pac_global::global;
 use pac_ops::Program;
 use pac_plan::is_plan;
 use pac_print::print;
 use pac_report::explain_text;
-use pac_script::{ScriptError, ScriptFault};
+use pac_script::{ScriptError, ScriptFault, excess_fault};
 use pac_slice::{LocalGraph, slices};
 use pac_syntax::{Tree, parse_catalogue};
 use pac_types::{Catalogue, CatalogueFault, check};
@@ -84,17 +84,6 @@ fn graph_text(alloc: Global, catalogue: &Catalogue) -> Result<Vec<u8>, ScriptErr
         Ok(programs) => Ok(planned_text(alloc, catalogue, programs)?),
         Err(Refusal::Fault(excess)) => Err(Refusal::Fault(excess_fault(catalogue, excess))),
         Err(Refusal::NoMemory) => Err(Refusal::NoMemory),
-    }
-}
-
-/// The name of the first procedure at which operations are too many, and how many they are.
-pub(crate) fn excess_fault(catalogue: &Catalogue, excess: TooManyOps) -> ScriptFault
-    requires { IsFirstExcess catalogue.now.procs excess.proc excess.count }
-    ensures { IsExcessFault catalogue.now result }
-{
-    ScriptFault::TooManyOps {
-        proc: catalogue.procs()[usize::from(excess.proc)].name,
-        count: excess.count,
     }
 }
 

@@ -15,7 +15,6 @@ ghost use Rattle.pac_main.specs.Streams.{IsOneOf, IsReported, observed, observed
 ghost use Rattle.pac_main.specs.declared.stop.Stop.{Stop as AStop};
 ghost use Rattle.pac_script.specs.declared.script_fault.ScriptFault.{ScriptFault as AFault};
 
-use crate::explanation::excess_fault;
 use crate::input::InputError;
 use crate::reporting::{ArgumentsError, refuse_arguments, report};
 use crate::stop::Stop;
@@ -23,7 +22,7 @@ use pac_arguments::{Command, parse_args};
 use pac_base::{NoMemory, Refusal};
 use pac_flat::test_operations;
 use pac_outside::{Devices, Disk, Sink, Source, read_up_to};
-use pac_script::{ScriptError, ScriptFault};
+use pac_script::{ScriptError, ScriptFault, excess_fault};
 use pac_store::make_store;
 use pac_syntax::MAX_CATALOGUE;
 use pac_types::read_catalogue;

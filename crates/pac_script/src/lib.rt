@@ -2,6 +2,7 @@
 //!
 //! - [`read_script`]: the [`Script`] that a text is, a catalogue and batches of transactions that fit it; or its first
 //!   [`ScriptFault`].
+//! - [`excess_fault`]: too many operations of a catalogue, as a script's fault.
 //! - [`stress_txn`]: the transactions of the stress test.
 //!
 //! ```
@@ -25,5 +26,5 @@ mod step;
 mod stress;
 
 pub use script::{Script, read_script};
-pub use script_fault::{ScriptError, ScriptFault};
+pub use script_fault::{ScriptError, ScriptFault, excess_fault};
 pub use stress::stress_txn;

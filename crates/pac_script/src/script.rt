@@ -14,7 +14,7 @@ ghost use Rattle.pac_script.specs.ScriptReading.{IsExcessFault, IsLineFault, IsL
 
 use crate::batcher::Batcher;
 use crate::lines::{find_mark, first_line};
-use crate::script_fault::{ScriptError, ScriptFault};
+use crate::script_fault::{ScriptError, ScriptFault, excess_fault};
 use pac_base::{Refusal, listed};
 use pac_flat::test_operations;
 use pac_ops::{Batch, Batches};
@@ -98,10 +98,7 @@ fn test_limits(catalogue: &Catalogue) -> Result<(), ScriptFault>
 {
     match test_operations(catalogue) {
         Ok(()) => Ok(()),
-        Err(excess) => Err(ScriptFault::TooManyOps {
-            proc: catalogue.procs()[usize::from(excess.proc)].name,
-            count: excess.count,
-        }),
+        Err(excess) => Err(excess_fault(catalogue, excess)),
     }
 }
 

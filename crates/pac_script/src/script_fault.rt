@@ -1,7 +1,11 @@
 // Why a text is no script.
+ghost use Rattle.pac_types.specs.OperationLimits.{IsFirstExcess};
+ghost use Rattle.pac_script.specs.ScriptReading.{IsExcessFault};
+
 use pac_base::Refusal;
+use pac_flat::TooManyOps;
 use pac_request::LineFault;
-use pac_types::CatalogueFault;
+use pac_types::{Catalogue, CatalogueFault};
 use pac_value::Name;
 use thiserror::Error;
 
@@ -22,3 +26,15 @@ pub enum ScriptFault {
 
 /// Why a text isn't read as a script.
 pub type ScriptError = Refusal<ScriptFault>;
+
+/// Too many operations of a catalogue, as they are reported: by the name of the first procedure at which they are too many, and
+/// how many they are.
+pub fn excess_fault(catalogue: &Catalogue, excess: TooManyOps) -> ScriptFault
+    requires { IsFirstExcess catalogue.now.procs excess.proc excess.count }
+    ensures { IsExcessFault catalogue.now result }
+{
+    ScriptFault::TooManyOps {
+        proc: catalogue.procs()[usize::from(excess.proc)].name,
+        count: excess.count,
+    }
+}

@@ -6,7 +6,7 @@ use Rattle.pac_types.specs.declared.procedure.Proc.{Proc}
 use Rattle.pac_types.specs.OperationLimits.{IsFirstExcess}
 use Rattle.pac_flat.proofs.ExcessLemmas.{excess_within}
 use Rattle.pac_script.specs.Script.{IsExcess}
-use Rattle.pac_main.proofs.explanation.excess_fault.Goals as goal
+use Rattle.pac_script.proofs.script_fault.excess_fault.Goals as goal
 
 within : (procs shown : List Proc) (n k count : ℕ) → shown ≡ procs → k ≡ n → IsFirstExcess procs n count → k < length shown
 within procs shown n k count same at first =
