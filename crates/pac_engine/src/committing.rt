@@ -18,8 +18,8 @@ use pac_log::{Log, PrepareError};
 use pac_ops::{Batch, Txn, Txns};
 use pac_outside::Disk;
 
-// Makes transactions ready to be committed.
-fn prepare(log: &mut Log, txns: Vec<Txn>) -> Result<(), EngineCause>
+// Makes transactions ready to be committed, and gives them back.
+fn prepare(log: &mut Log, txns: Vec<Txn>) -> Result<Vec<Txn>, EngineCause>
     requires waits { log.old.stage ≡ Stage.Waiting }
     requires some { 0 < length txns.items }
     requires few { length txns.items ≤ MAX_TXNS }
@@ -39,15 +39,15 @@ fn prepare(log: &mut Log, txns: Vec<Txn>) -> Result<(), EngineCause>
         txns: Txns::of(txns),
     };
     match log.prepare(&batch) {
-        Ok(()) => Ok(()),
+        Ok(()) => Ok(batch.txns.into_items()),
         Err(PrepareError::LogFull { need }) => Err(EngineCause::LogFull { need }),
         Err(PrepareError::NoMemory) => Err(EngineCause::NoMemory),
         Err(PrepareError::Failed) => unreachable!(),
     }
 }
 
-/// Puts the transactions of a group after the others of a log, and makes them durable; where there are none, the device is
-/// not called.
+/// Puts the transactions of a group after the others of a log, makes them durable, and gives them back, since their lists may be
+/// used again; where there are none, the device is not called.
 ///
 /// # Errors
 ///
@@ -56,7 +56,7 @@ fn prepare(log: &mut Log, txns: Vec<Txn>) -> Result<(), EngineCause>
 /// - [`EngineCause::NoMemory`] where there was no memory for the body. The device is not called.
 /// - [`EngineCause::DiskFault`] where a call of the device failed, so only where its count of faults rose; no call comes after
 ///   it.
-pub fn commit<D: Disk>(log: &mut Log, disk: &mut D, txns: Vec<Txn>) -> Result<(), EngineCause>
+pub fn commit<D: Disk>(log: &mut Log, disk: &mut D, txns: Vec<Txn>) -> Result<Vec<Txn>, EngineCause>
     requires waits { log.old.stage ≡ Stage.Waiting }
     requires ends { IfKnown (λ old. LogEndsAt log.old.gate old.now) (D.known disk.old) }
     requires few { length txns.items ≤ MAX_TXNS }
@@ -91,9 +91,9 @@ pub fn commit<D: Disk>(log: &mut Log, disk: &mut D, txns: Vec<Txn>) -> Result<()
     ensures quiet { ¬ IsErrOf result EngineCause.DiskFault → D.faults disk.new ≡ D.faults disk.old }
 {
     if txns.is_empty() {
-        return Ok(());
+        return Ok(txns);
     }
-    prepare(log, txns)?;
+    let stored = prepare(log, txns)?;
     log.commit(disk)?;
-    Ok(())
+    Ok(stored)
 }

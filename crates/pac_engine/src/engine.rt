@@ -25,6 +25,7 @@ use pac_request::{Replies, Reply, Request};
 use pac_session::Session;
 use pac_tables::OrderedRows;
 use pac_types::Catalogue;
+use pac_value::Value;
 use std::alloc::Global;
 use std::marker::Model;
 
@@ -110,6 +111,13 @@ impl Engine {
         ensures { result.now ≡ self.now.session.held }
     {
         self.parts.session.held()
+    }
+
+    /// A list for the arguments of a call that may be asked next: one with the room of an earlier one, where there is one left.
+    pub fn spare_args(&mut self) -> Vec<Value>
+        ensures { self.new ≡ self.old }
+    {
+        self.parts.session.spare_args()
     }
 
     /// Does what one request asks. A transaction is executed, and where the open group has no room for its entry that is

@@ -54,7 +54,8 @@ impl EngineParts {
     {
         let _txns = self.log.gate().txns(); // so few that the numbers after them have 64 bits
         let (txns, replies) = self.session.close();
-        commit(&mut self.log, &mut devices.log, txns)?;
+        let stored = commit(&mut self.log, &mut devices.log, txns)?;
+        self.session.reuse(stored);
         Ok(replies)
     }
 

@@ -2,7 +2,7 @@
 //!
 //! - [`read_line`]: what a line asks of a catalogue, a [`Request`] that fits it; nothing, for white space and a
 //!   comment; or its first [`LineFault`], with an offset in the line and one of seven [`LineFaultKind`]s.
-//! - [`read_script_line`]: the same for a line of a script, where `show`, `save` and `stop` are refused.
+//! - [`read_line_with`]: the same, in the room of a list that isn't wanted any more. [`read_script_line`]: the same for a line of a script, where `show`, `save` and `stop` are refused.
 //! - [`Reply`], [`Replies`]: the answers to requests, as data.
 //!
 //! ```
@@ -34,5 +34,5 @@ mod request;
 
 pub use fault::{LineFault, LineFaultKind};
 pub use limits::MAX_LINE;
-pub use line::{read_line, read_script_line};
+pub use line::{read_line, read_line_with, read_script_line};
 pub use request::{Replies, RepliesRule, Reply, Request};

@@ -20,6 +20,7 @@ use crate::request::Request;
 use pac_base::Refusal;
 use pac_tokens::{Lexed, Spanned, Token, lex};
 use pac_types::Catalogue;
+use pac_value::Value;
 use std::alloc::Global;
 
 fn refused(at: usize, kind: LineFaultKind) -> Refusal<LineFault>
@@ -68,10 +69,31 @@ pub fn read_line(
     // What is asked fits the catalogue.
     ensures fits { IfOk result (AskedFits catalogue.now) }
 {
+    read_line_with(alloc, catalogue, line, Vec::new(alloc))
+}
+
+/// What [`read_line`] says of a line. The arguments of a call take the room of a list, whose values are gone.
+///
+/// # Errors
+///
+/// Those of [`read_line`].
+pub fn read_line_with(
+    alloc: Global,
+    catalogue: &Catalogue,
+    line: &[u8],
+    room: Vec<Value>,
+) -> Result<Option<Request>, Refusal<LineFault>>
+    // What is answered is what the line says.
+    ensures says { AnswersBy (LineSays catalogue.now line.now) result }
+    // What the line says is answered, and nothing else.
+    ensures only { (answer : LineAnswer) → LineSays catalogue.now line.now answer → Reports (λ said. said) result answer }
+    // What is asked fits the catalogue.
+    ensures fits { IfOk result (AskedFits catalogue.now) }
+{
     if line.len() > MAX_LINE {
         return Err(refused(MAX_LINE, LineFaultKind::TooLong));
     }
-    if let Some(call) = plain_call(alloc, catalogue, line)? {
+    if let Some(call) = plain_call(catalogue, line, room)? {
         return Ok(Some(Request::Call(call)));
     }
     let lexed = lex(alloc, line)?;
@@ -122,7 +144,7 @@ pub fn read_script_line(
     if line.len() > MAX_LINE {
         return Err(refused(MAX_LINE, LineFaultKind::TooLong));
     }
-    if let Some(call) = plain_call(alloc, catalogue, line)? {
+    if let Some(call) = plain_call(catalogue, line, Vec::new(alloc))? {
         return Ok(Some(Request::Call(call)));
     }
     let lexed = lex(alloc, line)?;

@@ -18,7 +18,6 @@ use pac_ops::{Args, Call};
 use pac_tokens::{gap_len, leading_literal, leading_name};
 use pac_types::{Catalogue, Column, Proc};
 use pac_value::{Ty, Value};
-use std::alloc::Global;
 
 // The bytes after white space and comments.
 fn after_gap(bytes: &[u8]) -> &[u8]
@@ -131,11 +130,18 @@ fn split_column(columns: &[Column]) -> Option<(Ty, &[Column])>
     }
 }
 
-// An argument for each parameter, of its type, up to the end of the line. `None`: something else is written there.
-fn arguments(alloc: Global, params: &[Column], bytes: &[u8]) -> Result<Option<Vec<Value>>, NoMemory>
+// An argument for each parameter, of its type, up to the end of the line, in the room of a list. `None`: something else is
+// written there.
+fn arguments(
+    params: &[Column],
+    bytes: &[u8],
+    room: Vec<Value>,
+) -> Result<Option<Vec<Value>>, NoMemory>
     ensures { IfOk result (λ found. IfSome found (λ values. HasArguments (types params.now) bytes.now values.items)) }
 {
-    let mut values = Vec::with_capacity(alloc, params.len())?;
+    let mut values = room;
+    values.clear();
+    values.reserve(params.len())?;
     let mut params = params;
     let mut rest = bytes;
     let mut is_first = true;
@@ -159,22 +165,23 @@ fn arguments(alloc: Global, params: &[Column], bytes: &[u8]) -> Result<Option<Ve
 }
 
 /// The call that a line is, where it is one of a procedure of the catalogue, and each argument is an int that isn't below
-/// zero or a text, of its parameter's type. `None`: the line asks something else, or is refused; its tokens say.
+/// zero or a text, of its parameter's type. `None`: the line asks something else, or is refused; its tokens say. The arguments
+/// take the room of a list, whose values are gone.
 ///
 /// # Errors
 ///
 /// `NoMemory` alone.
 pub(crate) fn plain_call(
-    alloc: Global,
     catalogue: &Catalogue,
     line: &[u8],
+    room: Vec<Value>,
 ) -> Result<Option<Call>, NoMemory>
     ensures { IfOk result (λ found. IfSome found (λ call. AsksPlainly catalogue.now line.now (ACall call))) }
 {
     let Some((proc, called, after)) = called(catalogue, line) else {
         return Ok(None);
     };
-    let Some(values) = arguments(alloc, called.params.as_slice(), after)? else {
+    let Some(values) = arguments(called.params.as_slice(), after, room)? else {
         return Ok(None);
     };
     let args = Args::of(values);

@@ -21,8 +21,9 @@ use pac_base::{Exact, NoMemory, Refusal};
 use pac_engine::{Engine, EngineCause, EngineFault};
 use pac_lines::LineReader;
 use pac_outside::{Devices, Disk, Sink, Source, write_all};
-use pac_request::{MAX_LINE, Request, read_line};
+use pac_request::{MAX_LINE, Request, read_line_with};
 use pac_types::Catalogue;
+use pac_value::Value;
 use std::alloc::Global;
 
 // Writes a text.
@@ -39,16 +40,18 @@ fn write<O: Sink>(output: &mut O, text: &[u8]) -> Result<(), RunStop>
     }
 }
 
-// What a line asks, if it asks anything. A line that is refused is a request to report that.
+// What a line asks, if it asks anything; the arguments of a call take the room of a list. A line that is refused is a request to
+// report that.
 fn request_of(
     alloc: Global,
     catalogue: &Catalogue,
     line: &[u8],
+    room: Vec<Value>,
 ) -> Result<Option<Request>, NoMemory>
     ensures asks { IfOk result (λ asked. LineAsks catalogue.now line.now (listed_asked asked)) }
     ensures fits { IfOk result (AskedFits catalogue.now) }
 {
-    match read_line(alloc, catalogue, line) {
+    match read_line_with(alloc, catalogue, line, room) {
         Ok(asked) => Ok(asked),
         Err(Refusal::Fault(fault)) => Ok(Some(Request::Refused(fault))),
         Err(Refusal::NoMemory) => Err(NoMemory),
@@ -164,7 +167,8 @@ fn serve_line<O: Sink, D: Disk>(
     ensures disk_fault { IsErrOf result RunStop.DiskFault → OneFaulted (each D.faults devices.old) (each D.faults devices.new) }
     ensures quiet { ¬ IsErrOf result RunStop.DiskFault → each D.faults devices.new ≡ each D.faults devices.old }
 {
-    let Some(asked) = request_of(alloc, catalogue, line)? else {
+    let room = engine.spare_args();
+    let Some(asked) = request_of(alloc, catalogue, line, room)? else {
         return Ok(false);
     };
     let stops = is_stop(&asked);

@@ -2,6 +2,8 @@
 //!
 //! - [`Session`]: the tables, and the open group's transactions and replies. [`Session::run`] executes a transaction,
 //!   [`Session::answer`] answers another request, [`Session::close`] returns a group and begins the next.
+//! - [`Session::reuse`] takes the transactions back once they are stored, and [`Session::spare_args`] gives the room of their
+//!   arguments to those of a later call.
 //! - [`transaction_of`]: the transaction that a request asks for, or the request itself where it asks for none.
 //!
 //! ```

@@ -23,7 +23,7 @@ use pac_request::{Replies, Reply, Request};
 use pac_serial::{ExecError, RunningTxn};
 use pac_tables::{OrderedRows, Rows};
 use pac_types::Catalogue;
-use pac_value::Key;
+use pac_value::{Key, Value};
 use std::alloc::Global;
 use std::marker::Model;
 use std::mem;
@@ -41,6 +41,8 @@ pub struct Session {
     // How many bytes the body of the transactions has.
     len: usize,
     held: Vec<Reply>,
+    // Transactions of a group that was closed, whose lists have room.
+    spare: Vec<Txn>,
     // What each transaction is executed in.
     running: RunningTxn,
 }
@@ -86,6 +88,7 @@ impl Session {
             txns: Vec::new(alloc),
             len: BODY_HEAD_LEN,
             held: Vec::new(alloc),
+            spare: Vec::new(alloc),
             running: RunningTxn::new(alloc),
         }
     }
@@ -210,6 +213,23 @@ impl Session {
             Request::Show { table, key } => self.show(*table, *key),
             Request::Refused(fault) => self.hold(Reply::Refused(*fault)),
             _ => Ok(()),
+        }
+    }
+
+    /// Takes transactions that nobody wants any more, for the room of their lists.
+    pub fn reuse(&mut self, txns: Vec<Txn>)
+        ensures { self.new ≡ self.old }
+    {
+        self.spare = txns;
+    }
+
+    /// A list for the arguments of a call: one with the room of an earlier one, where there is one left.
+    pub fn spare_args(&mut self) -> Vec<Value>
+        ensures { self.new ≡ self.old }
+    {
+        match self.spare.pop() {
+            Some(Txn::Call(call)) => call.args.into_items(),
+            _ => Vec::new(self.alloc),
         }
     }
 

@@ -16,19 +16,19 @@ commit-requires-clause-short g c =
     let same = ap (λ (l : List Txn). length (body_bytes l)) c.close-txns.ensures.txns in
     omega (arith, same, body_len-bytes c.args.self.now.session.txns, c.close-txns.ensures.short)
 
-pub returns-in_err-commit-clause-keeps : goal.returns-in_err-commit-clause-keeps
-returns-in_err-commit-clause-keeps g c = λ text history.
-    closed-fails text history c.args.self.now c.requires.working.same c.close-txns.result.0.items c.close-txns.ensures.txns _ _ _ _ c.commit.ensures.moments _ (ap (λ (gate : NextGate). gate.txns) c.in_err-commit.ensures.kept) (search rules)
+pub returns-in_err-stored-clause-keeps : goal.returns-in_err-stored-clause-keeps
+returns-in_err-stored-clause-keeps g c = λ text history.
+    closed-fails text history c.args.self.now c.requires.working.same c.close-txns.result.0.items c.close-txns.ensures.txns _ _ _ _ c.commit.ensures.moments _ (ap (λ (gate : NextGate). gate.txns) c.in_err-stored.ensures.kept) (search rules)
 
-pub returns-in_err-commit-clause-torn : goal.returns-in_err-commit-clause-torn
-returns-in_err-commit-clause-torn g c =
+pub returns-in_err-stored-clause-torn : goal.returns-in_err-stored-clause-torn
+returns-in_err-stored-clause-torn g c =
     let gate = c.args.self.now.log.gate in
-    on-err-all c.from_residual.result (subst (λ (txns : List Txn). IfKnown (λ h. LogEndsAtEither gate (gate_past txns gate) h.now) (g.D.Disk.known c.commit.new.disk)) c.close-txns.ensures.txns c.in_err-commit.ensures.torn)
+    on-err-all c.from_residual.result (subst (λ (txns : List Txn). IfKnown (λ h. LogEndsAtEither gate (gate_past txns gate) h.now) (g.D.Disk.known c.commit.new.disk)) c.close-txns.ensures.txns c.in_err-stored.ensures.torn)
 
 pub returns-clause-keeps : goal.returns-clause-keeps
 returns-clause-keeps g c = λ text history.
-    closed-keeps text history c.args.self.now c.requires.working.same c.close-txns.result.0.items c.close-txns.ensures.txns _ _ _ _ c.commit.ensures.moments c.in_ok-commit.ensures.added c.commit.new.log.gate c.in_ok-commit.ensures.after c.in_ok-commit.ensures.gate _ (search rules)
+    closed-keeps text history c.args.self.now c.requires.working.same c.close-txns.result.0.items c.close-txns.ensures.txns _ _ _ _ c.commit.ensures.moments c.in_ok-stored.ensures.added c.commit.new.log.gate c.in_ok-stored.ensures.after c.in_ok-stored.ensures.gate _ (search rules)
 
 pub returns-clause-stands : goal.returns-clause-stands
 returns-clause-stands g c = λ text history.
-    closed-stands text history c.args.self.now c.requires.working.same c.close-txns.result.0.items c.close-txns.ensures.txns _ _ _ _ c.commit.ensures.moments c.in_ok-commit.ensures.added c.commit.new.log.gate c.in_ok-commit.ensures.after c.in_ok-commit.ensures.gate _ (search rules)
+    closed-stands text history c.args.self.now c.requires.working.same c.close-txns.result.0.items c.close-txns.ensures.txns _ _ _ _ c.commit.ensures.moments c.in_ok-stored.ensures.added c.commit.new.log.gate c.in_ok-stored.ensures.after c.in_ok-stored.ensures.gate _ (search rules)

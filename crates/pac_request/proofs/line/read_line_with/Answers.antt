@@ -3,7 +3,7 @@ use Rattle.pac_request.specs.LineReading.{LineSays}
 use Rattle.pac_request.specs.declared.request.Request.TheVariants as request
 use Rattle.pac_request.proofs.PlainLemmas.{plain_says, plain_fits}
 use Rattle.pac_request.proofs.LineOnce.{short_says, line_once, only_answer}
-use Rattle.pac_request.proofs.line.read_line.Goals as goal
+use Rattle.pac_request.proofs.line.read_line_with.Goals as goal
 
 pub returns-clause-says : goal.returns-clause-says
 returns-clause-says c = short_says _ c.args.line.now _ _ c.answer_of.result (omega (arith, c.if-line-gt-MAX_LINE.false)) c.in_ok-lexed.ensures.lexed c.answer_of.ensures.exact
