@@ -44,8 +44,17 @@ pub fn write_body(batch: &Batch, out: &mut Vec<u8>) -> Result<(), NoMemory>
     // Its transactions are some that are read again, where they fit the catalogue.
     ensures form { OnOk result (All TxnHasBytes batch.now.txns) }
 {
+    write_measured(batch, entries_len(batch.txns.items()), out)
+}
+
+// The same of a batch whose entries have that many bytes.
+pub(crate) fn write_measured(batch: &Batch, len: usize, out: &mut Vec<u8>) -> Result<(), NoMemory>
+    requires exact { len ≡ length (entries_bytes batch.now.txns) }
+    requires few { len ≤ MAX_TXNS * MAX_ENTRY_LEN }
+    ensures bytes { OnOk result (Grew out.old.items out.new.items (body_bytes batch.now.txns)) }
+    ensures form { OnOk result (All TxnHasBytes batch.now.txns) }
+{
     let txns = batch.txns.items();
-    let len = entries_len(txns);
     out.reserve(8 + len)?;
     put_u32(out, txns.len() as u32)?;
     put_u32(out, len as u32)?;

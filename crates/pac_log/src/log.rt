@@ -12,8 +12,9 @@ ghost use Rattle.pac_log.specs.Gates.{gate_after};
 ghost use Rattle.pac_log.specs.Places.{LogEndsAt, HasFailed, IsAfter, IsPrepared, HasReady, need_of};
 ghost use Rattle.pac_log.specs.Torn.{LogEndsAtEither};
 
+use crate::body::write_measured;
 use crate::position::Position;
-use crate::{LogReader, MAX_LOG_LEN, PrepareError, body_len, write_body};
+use crate::{LogReader, MAX_LOG_LEN, PrepareError, body_len};
 use pac_base::{Listed, listed};
 use pac_ops::Batch;
 use pac_outside::{Disk, Failed, GATE_SHUT, open_after};
@@ -114,7 +115,7 @@ impl Log {
             return Err(PrepareError::LogFull { need });
         }
         let mut piece = Vec::with_capacity(self.alloc, len as usize + 1)?;
-        write_body(batch, &mut piece)?;
+        write_measured(batch, len as usize - 8, &mut piece)?;
         piece.push(GATE_SHUT)?;
         let txns = batch.txns.items().len() as u64;
         self.parts.stage = Stage::Ready {

@@ -243,7 +243,9 @@ impl Session {
         ensures few { length self.old.txns ≤ MAX_TXNS }
         ensures short { body_len self.old.txns ≤ MAX_BODY_LEN }
     {
-        let txns = mem::replace(&mut self.txns, Vec::new(self.alloc));
+        let mut next = mem::replace(&mut self.spare, Vec::new(self.alloc));
+        next.clear();
+        let txns = mem::replace(&mut self.txns, next);
         let held = mem::replace(&mut self.held, Vec::new(self.alloc));
         self.before += txns.len() as u64;
         self.len = BODY_HEAD_LEN;

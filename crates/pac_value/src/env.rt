@@ -1,5 +1,5 @@
 // The values of variables.
-ghost use Rattle.std.specs.Prelude.{◌≡◌, ◌↔◌, T, length, IsTrue, IfOk, IfErr, OnOk, OnErr};
+ghost use Rattle.std.specs.Prelude.{◌≡◌, ◌↔◌, ◌≤◌, T, length, IsTrue, IfOk, IfErr, OnOk, OnErr};
 ghost use Rattle.std.specs.List.{insert};
 ghost use Rattle.std.specs.Option.{option_map};
 ghost use Rattle.std.specs.Ordering.{nat_cmp};
@@ -68,12 +68,15 @@ fn search(values: &[(u16, Value)], var: u16) -> Result<usize, usize>
     values.binary_search_by(|entry| entry.0.cmp(&var))
 }
 
-// Adds an entry behind all others.
-fn add_last(values: &mut Vec<(u16, Value)>, entry: (u16, Value)) -> Result<(), NoMemory>
-    ensures ok { OnOk result (values.new.items ≡ insert values.old.items (length values.old.items) entry) }
+// Adds an entry at a place.
+fn add(values: &mut Vec<(u16, Value)>, at: usize, entry: (u16, Value)) -> Result<(), NoMemory>
+    requires { at ≤ length values.old.items }
+    ensures ok { OnOk result (values.new.items ≡ insert values.old.items at entry) }
     ensures err { OnErr result (values.new.items ≡ values.old.items) }
 {
-    if values.len() < values.capacity() {
+    if at < values.len() {
+        values.insert(at, entry)?;
+    } else if values.len() < values.capacity() {
         values.push_reserved(entry);
     } else {
         values.push(entry)?;
@@ -153,14 +156,13 @@ impl Env {
         ensures ok { OnOk result (self.new ≡ map.insert self.old var value) }
         ensures err { OnErr result (self.new ≡ self.old) }
     {
-        if is_above_all(&self.values, var) {
-            return add_last(&mut self.values, (var, value));
-        }
         match search(&self.values, var) {
-            Ok(at) => self.values[at].1 = value,
-            Err(at) => self.values.insert(at, (var, value))?,
+            Ok(at) => {
+                self.values[at].1 = value;
+                Ok(())
+            }
+            Err(at) => add(&mut self.values, at, (var, value)),
         }
-        Ok(())
     }
 }
 

@@ -8,7 +8,7 @@ pub invariant_of-self : goal.invariant_of-self
 invariant_of-self c =
     let listed = ap (λ l. length l) c.listed.ensures in
     let pushed = c.in_ok-push.ensures.len in
-    let written = ap (λ l. length l) c.in_ok-write_body.ensures.bytes in
+    let written = ap (λ l. length l) c.in_ok-write_measured.ensures.bytes in
     let placed = ap (λ p. p.gate.place) c.self.view_is in (
       omega (arith, listed, pushed, written, placed, length-append c.in_ok-piece.piece.items (body_bytes c.args.batch.now.txns), c.in_ok-piece.ensures.len, c.body_len-len.ensures.exact, c.place.ensures, c.saturating_add-need.ensures, c.if-need-gt-MAX_LOG_LEN.false),
       omega (arith, listed, pushed, written, length-append c.in_ok-piece.piece.items (body_bytes c.args.batch.now.txns), c.in_ok-piece.ensures.len, ap (λ l. length l) c.items.ensures.value, body_long c.args.batch.now.txns),
