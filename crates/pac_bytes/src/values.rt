@@ -9,7 +9,7 @@ ghost use Rattle.pac_bytes.specs.Reading.{from};
 ghost use Rattle.pac_bytes.specs.Readers.{Answers, Finds, FindsSpelled};
 ghost use Rattle.pac_bytes.specs.Values.{int_body, text_of_length, text_body, next_type, next_value, value_bytes, HasBytes};
 
-use crate::{ValueFault, put_u8, put_u64, u8_at, u64_at};
+use crate::{ValueFault, put_u8, u8_at, u64_at};
 use pac_base::NoMemory;
 use pac_value::{Text, Ty, Value};
 
@@ -162,8 +162,8 @@ pub fn put_value(out: &mut Vec<u8>, value: &Value) -> Result<(), NoMemory>
 pub(crate) fn put_int(out: &mut Vec<u8>, number: i64) -> Result<(), NoMemory>
     ensures { OnOk result (Grew out.old.items out.new.items (value_bytes (AnInt number))) }
 {
-    put_u8(out, INT)?;
-    put_u64(out, number.cast_unsigned())
+    let [a, b, c, d, e, f, g, h] = number.cast_unsigned().to_le_bytes();
+    Ok(out.extend_from_slice(&[INT, a, b, c, d, e, f, g, h])?)
 }
 
 pub(crate) fn put_text(out: &mut Vec<u8>, text: &Text) -> Result<(), NoMemory>

@@ -4,6 +4,7 @@ ghost use Rattle.std.specs.List.{flat_map, list_all, All};
 ghost use Rattle.pac_value.specs.declared.limits.TheConstants.{MAX_PARAMS};
 ghost use Rattle.pac_value.specs.Growth.{Grew};
 ghost use Rattle.pac_value.specs.Values.{is_stored};
+ghost use Rattle.pac_bytes.specs.Typed.{values_bytes};
 ghost use Rattle.pac_bytes.specs.Values.{HasBytes};
 ghost use Rattle.pac_entry.specs.Entries.{counted_bytes, change_bytes, txn_bytes, ChangeHasBytes, TxnHasBytes};
 
@@ -35,9 +36,10 @@ pub fn write_entry(txn: &Txn, out: &mut Vec<u8>) -> Result<(), NoMemory>
 {
     match txn {
         Txn::Call(call) => {
-            put_u8(out, CALL)?;
-            put_u16(out, call.proc)?;
-            put_values(out, call.args.items())
+            let values = call.args.items();
+            let [low, high] = call.proc.to_le_bytes();
+            out.extend_from_slice(&[CALL, low, high, values.len() as u8])?;
+            put_each(out, values)
         }
         Txn::AdHoc { records } => {
             let changes = records.items();
@@ -56,6 +58,15 @@ fn put_values(out: &mut Vec<u8>, values: &[Value]) -> Result<(), NoMemory>
     ensures form { OnOk result (All HasBytes values.now) }
 {
     put_u8(out, values.len() as u8)?;
+    put_each(out, values)
+}
+
+// One value after another.
+fn put_each(out: &mut Vec<u8>, values: &[Value]) -> Result<(), NoMemory>
+    requires stored { IsTrue (list_all is_stored values.now) }
+    ensures bytes { OnOk result (Grew out.old.items out.new.items (values_bytes values.now)) }
+    ensures form { OnOk result (All HasBytes values.now) }
+{
     for value in values {
         put_value(out, value)?;
     }

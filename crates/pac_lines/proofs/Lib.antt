@@ -1,4 +1,5 @@
 pub mod CallLemmas
+pub mod FeedLemmas
 pub mod LimitLemmas
 pub mod LineLemmas
 pub mod ReadLemmas

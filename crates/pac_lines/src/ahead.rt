@@ -8,6 +8,7 @@ ghost use Rattle.pac_lines.specs.Reading.{AheadState, IsReadAfter};
 
 use crate::LineError;
 use crate::limits::MAX_READ;
+use memchr::memchr;
 use pac_outside::Source;
 use std::alloc::Global;
 use std::marker::Model;
@@ -43,7 +44,7 @@ fn feed_at(bytes: &[u8]) -> Option<usize>
     ensures offset { result ≡ position (λ b. nat_eq b line_feed) bytes.now }
     ensures within { IfSome result (λ at. at < length bytes.now) }
 {
-    bytes.iter().position(|byte| *byte == b'\n')
+    memchr(b'\n', bytes)
 }
 
 // Reads at most `most` bytes after those of the buffer.

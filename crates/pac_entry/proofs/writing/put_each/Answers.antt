@@ -2,7 +2,7 @@
 use Rattle.std.proofs.lemmas.List.Elements.{All-more}
 use Rattle.pac_bytes.specs.Values.{HasBytes, value_bytes}
 use Rattle.pac_entry.proofs.WrittenLemmas.{one_more}
-use Rattle.pac_entry.proofs.writing.put_values.Goals as goal
+use Rattle.pac_entry.proofs.writing.put_each.Goals as goal
 
 pub loop-value-preserved : goal.loop-value-preserved
 loop-value-preserved c = record {
