@@ -3,7 +3,7 @@ ghost use Rattle.std.specs.Prelude.{◌≤◌, All, IfOk, length};
 ghost use Rattle.pac_types.specs.Fits.{TxnFits};
 ghost use Rattle.pac_entry.specs.declared.limits.TheConstants.{MAX_BODY_LEN};
 ghost use Rattle.pac_log.specs.Bodies.{body_bytes};
-ghost use Rattle.pac_log.specs.Logs.{IsAccepted};
+ghost use Rattle.pac_types.specs.Accepted.{IsAccepted};
 
 use crate::part::PartError;
 use pac_base::NoMemory;

@@ -5,7 +5,8 @@ use Rattle.std.proofs.lemmas.List.Elements.{All-nil}
 use Rattle.pac_types.specs.Typing.{CatalogueState}
 use Rattle.pac_outside.specs.Disk.{DiskState, DiskHistory, IfKnown, BothKnown, IsDurable, settled, spliced}
 use Rattle.pac_outside.specs.GateByte.{OneImage}
-use Rattle.pac_log.specs.Logs.{IsAccepted, header_bytes, HoldsLog}
+use Rattle.pac_log.specs.Logs.{header_bytes, HoldsLog}
+use Rattle.pac_types.specs.Accepted.{IsAccepted}
 
 module _ (text piece : List ℕ) (framed : piece ≡ header_bytes text ++ (0 ∷ [])) where
   -- on an empty device the piece is all there is

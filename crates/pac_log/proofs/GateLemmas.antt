@@ -17,7 +17,8 @@ use Rattle.pac_log.specs.declared.damage.LinkFault.{LinkFault}
 use Rattle.pac_log.specs.declared.link.Link.{Link}
 use Rattle.pac_log.specs.Bodies.{body_bytes, IsBody, link_bytes, IsLogLink}
 use Rattle.pac_log.specs.BodyReading.{next_link}
-use Rattle.pac_log.specs.Logs.{open_bodies, log_prefix, AreBatches, HoldsLog, IsAccepted}
+use Rattle.pac_log.specs.Logs.{open_bodies, log_prefix, AreBatches, HoldsLog}
+use Rattle.pac_types.specs.Accepted.{IsAccepted}
 use Rattle.pac_log.specs.Reading.{after_gate, at_gate, first_batch, further}
 use Rattle.pac_log.proofs.LinkLemmas.{link_codec}
 use Rattle.pac_log.proofs.LogLemmas.{log_prefix-append}

@@ -10,7 +10,8 @@ use Rattle.pac_outside.specs.Disk.{DiskHistory, IfKnown}
 use Rattle.pac_syntax.specs.declared.limits.TheConstants.{MAX_CATALOGUE}
 use Rattle.pac_types.specs.Typing.{CatalogueState}
 use Rattle.pac_log.specs.declared.position.NextGate.{NextGate}
-use Rattle.pac_log.specs.Logs.{IsAccepted, log_name, header_bytes}
+use Rattle.pac_log.specs.Logs.{log_name, header_bytes}
+use Rattle.pac_types.specs.Accepted.{IsAccepted}
 use Rattle.pac_log.specs.Reading.{IsStore, StandsAfter}
 
 -- the name and the length before the text

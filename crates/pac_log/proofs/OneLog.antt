@@ -8,7 +8,8 @@ use Rattle.pac_types.specs.CatalogueText.{HasCatalogue}
 use Rattle.pac_types.specs.Typing.{CatalogueState, Types}
 use Rattle.pac_types.proofs.TypingLemmas.{one_catalogue}
 use Rattle.pac_log.specs.declared.damage.LinkFault.{LinkFault}
-use Rattle.pac_log.specs.Logs.{header_bytes, open_bodies, log_prefix, IsAccepted, AreBatches, HoldsLog}
+use Rattle.pac_log.specs.Logs.{header_bytes, open_bodies, log_prefix, AreBatches, HoldsLog}
+use Rattle.pac_types.specs.Accepted.{IsAccepted}
 use Rattle.pac_log.specs.Reading.{IsStore, IsDamaged, at_gate}
 use Rattle.pac_log.proofs.HeaderLemmas.{head_of_store, text_of_store, same_len}
 use Rattle.pac_log.proofs.GateLemmas.{headed, next_held, last_held}

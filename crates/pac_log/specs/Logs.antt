@@ -3,17 +3,11 @@ use Rattle.std.specs.Prelude.{◌≡◌, ◌⊎◌, ℕ, List, [], ◌∷◌, �
 use Rattle.std.specs.Int.{w32, to_le_bytes}
 use Rattle.std.specs.List.{All}
 use Rattle.pac_ops.specs.declared.transaction.Txn.{Txn}
-use Rattle.pac_types.specs.CatalogueText.{HasCatalogue}
-use Rattle.pac_types.specs.OperationLimits.{HasFewOperations}
+use Rattle.pac_types.specs.Accepted.{IsAccepted}
 use Rattle.pac_types.specs.Typing.{CatalogueState}
 use Rattle.pac_outside.specs.Disk.{DiskHistory, LeavesOnly}
 use Rattle.pac_outside.specs.GateByte.{IsShut, OneImage}
 use Rattle.pac_log.specs.Bodies.{body_bytes, IsBody}
-
--- a catalogue's text that a log may have, and its catalogue
-pub record IsAccepted (text : List ℕ) (catalogue : CatalogueState) : Type 0 where
-  pub has : HasCatalogue text catalogue
-  pub few : HasFewOperations catalogue.procs
 
 -- the name that a log begins with
 abbrev pub log_name : List ℕ

@@ -13,7 +13,8 @@ use Rattle.pac_log.specs.Bodies.{body_bytes, IsBody}
 use Rattle.pac_log.specs.BodyReading.{next_link}
 use Rattle.pac_log.specs.Damages.{short_from}
 use Rattle.pac_log.specs.Gates.{gate_after}
-use Rattle.pac_log.specs.Logs.{header_bytes, log_prefix, IsAccepted, AreBatches, HoldsLog}
+use Rattle.pac_log.specs.Logs.{header_bytes, log_prefix, AreBatches, HoldsLog}
+use Rattle.pac_types.specs.Accepted.{IsAccepted}
 use Rattle.pac_log.specs.Places.{IsAfter}
 
 -- the header of this catalogue's text comes first, and one gate byte after it

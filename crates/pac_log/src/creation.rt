@@ -3,7 +3,8 @@ ghost use Rattle.std.specs.Prelude.{◌≡◌, ◌<◌, ◌≤◌, ℕ, [], ◌�
 ghost use Rattle.pac_outside.specs.Causes.{EndsAtFault, Faulted, one_more};
 ghost use Rattle.pac_outside.specs.Disk.{BothKnown, IfKnown, settled};
 ghost use Rattle.pac_types.specs.Typing.{CatalogueState};
-ghost use Rattle.pac_log.specs.Logs.{HoldsLog, IsAccepted, header_bytes};
+ghost use Rattle.pac_log.specs.Logs.{HoldsLog, header_bytes};
+ghost use Rattle.pac_types.specs.Accepted.{IsAccepted};
 ghost use Rattle.pac_outside.specs.GateByte.{OneImage};
 
 use crate::CreateError;

@@ -5,7 +5,8 @@ ghost use Rattle.pac_value.specs.Growth.{Grew};
 ghost use Rattle.pac_syntax.specs.declared.limits.TheConstants.{MAX_CATALOGUE};
 ghost use Rattle.pac_types.specs.Typing.{CatalogueState};
 ghost use Rattle.pac_log.specs.declared.damage.DamageKind.{DamageKind as ADamageKind};
-ghost use Rattle.pac_log.specs.Logs.{IsAccepted, header_bytes, log_name};
+ghost use Rattle.pac_log.specs.Logs.{header_bytes, log_name};
+ghost use Rattle.pac_types.specs.Accepted.{IsAccepted};
 
 use crate::LogError;
 use pac_base::{NoMemory, Refusal};

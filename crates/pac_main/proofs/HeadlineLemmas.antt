@@ -11,7 +11,8 @@ use Rattle.pac_outside.proofs.Images.{one_image}
 use Rattle.pac_outside.proofs.Runs.{three}
 use Rattle.pac_outside.specs.declared.devices.Devices.{Devices}
 use Rattle.pac_types.specs.Typing.{CatalogueState}
-use Rattle.pac_log.specs.Logs.{IsAccepted, all_txns, header_bytes}
+use Rattle.pac_log.specs.Logs.{all_txns, header_bytes}
+use Rattle.pac_types.specs.Accepted.{IsAccepted}
 use Rattle.pac_store.specs.Images.{Images, IfReadKnown}
 use Rattle.pac_store.specs.Stands.{StandsFor}
 use Rattle.pac_store.proofs.StandsLemmas.{goes-on}

@@ -11,7 +11,7 @@ use Rattle.pac_outside.specs.declared.failed.ReadError.TheVariants as read
 use Rattle.pac_outside.specs.declared.devices.Devices.{Devices}
 use Rattle.pac_types.specs.Typing.{CatalogueState}
 use Rattle.pac_types.proofs.OneCatalogue.{catalogue_or_fault}
-use Rattle.pac_log.specs.Logs.{IsAccepted}
+use Rattle.pac_types.specs.Accepted.{IsAccepted}
 use Rattle.pac_store.specs.Made.{IsInUse}
 use Rattle.pac_store.specs.declared.device.DeviceName.{DeviceName}
 use Rattle.pac_store.specs.declared.errors.MakeError.{MakeError}

@@ -2,7 +2,7 @@
 use Rattle.std.specs.Prelude.{◌≡◌, ◌≢◌, ℕ, List, [], ◌∷◌, Option, IfSome}
 use Rattle.pac_outside.specs.Devices.{OneFaulted, IfAllKnown}
 use Rattle.pac_types.specs.Typing.{CatalogueState}
-use Rattle.pac_log.specs.Logs.{IsAccepted}
+use Rattle.pac_types.specs.Accepted.{IsAccepted}
 use Rattle.pac_store.specs.Made.{IsInUse, MakesStore}
 use Rattle.pac_store.specs.declared.device.DeviceName.{DeviceName}
 use Rattle.pac_script.specs.declared.script_fault.ScriptFault.{ScriptFault}

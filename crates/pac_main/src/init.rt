@@ -5,7 +5,7 @@ ghost use Rattle.pac_outside.specs.Content.{GaveAtMost};
 ghost use Rattle.pac_outside.specs.Devices.{each};
 ghost use Rattle.pac_syntax.specs.declared.limits.TheConstants.{MAX_CATALOGUE};
 ghost use Rattle.pac_types.specs.Typing.{CatalogueState};
-ghost use Rattle.pac_log.specs.Logs.{IsAccepted};
+ghost use Rattle.pac_types.specs.Accepted.{IsAccepted};
 ghost use Rattle.pac_main.specs.Causes.{GivesNoText, InitStops};
 ghost use Rattle.pac_main.specs.Commands.{IsInit};
 ghost use Rattle.pac_main.specs.Explained.{IsUnexplained};

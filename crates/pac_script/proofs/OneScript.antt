@@ -219,15 +219,15 @@ lines_over after c d number f same h = subst (λ (x : CatalogueState). IsFirstRe
 
 scripts_once : (prefix after : List ℕ) (a b : Script) → HasParts prefix after a → HasParts prefix after b → a ≡ b
 scripts_once prefix after a b h k =
-    let same : a.catalogue ≡ b.catalogue = one_catalogue prefix a.catalogue b.catalogue h.catalogue k.catalogue in
+    let same : a.catalogue ≡ b.catalogue = one_catalogue prefix a.catalogue b.catalogue h.accepted.has k.accepted.has in
     let made : a.batches ≡ b.batches = made_once b.catalogue (lines_after after) a.batches b.batches (subst (λ (c : CatalogueState). HasBatches c (lines_after after) a.batches) same h.batches) k.batches in
     λ i. record { catalogue = same i; batches = made i }
 
 script_or_fault : (prefix after : List ℕ) (s : Script) (f : ScriptFault) → HasParts prefix after s → IsPartsFault prefix after f → ⊥
-script_or_fault prefix after s (Catalogue f) h k = catalogue_or_fault prefix s.catalogue f h.catalogue k
-script_or_fault prefix after s (TooManyOps name count) h k = few_or_excess prefix s.catalogue k.0 name count h.catalogue h.few k.1 k.2
+script_or_fault prefix after s (Catalogue f) h k = catalogue_or_fault prefix s.catalogue f h.accepted.has k
+script_or_fault prefix after s (TooManyOps name count) h k = few_or_excess prefix s.catalogue k.0 name count h.accepted.has h.accepted.few k.1 k.2
 script_or_fault prefix after s (Line number f) h k =
-    accepted_or_refused s.catalogue (lines_after after) s.batches number f h.batches (lines_over after k.0 s.catalogue number f (one_catalogue prefix k.0 s.catalogue k.1.has h.catalogue) k.2)
+    accepted_or_refused s.catalogue (lines_after after) s.batches number f h.batches (lines_over after k.0 s.catalogue number f (one_catalogue prefix k.0 s.catalogue k.1.has h.accepted.has) k.2)
 
 line_faults_once : (after : List ℕ) (c : CatalogueState) (m n : ℕ) (f g : LineFault) → IsFirstRefused c (lines_after after) m f → IsFirstRefused c (lines_after after) n g → ◌≡◌ {A = ScriptFault} (Line m f) (Line n g)
 line_faults_once after c m n f g h k = let same = refused_once c (lines_after after) m n f g h k in λ i. Line (same.0 i) (same.1 i)

@@ -7,7 +7,6 @@ use Rattle.pac_ops.specs.declared.transaction.Txn.{Txn}
 use Rattle.pac_base.specs.declared.refusal.Refusal.{Refusal}
 use Rattle.pac_base.specs.declared.refusal.Refusal.TheVariants.{Fault, NoMemory}
 use Rattle.pac_types.specs.CatalogueText.{HasCatalogue}
-use Rattle.pac_types.specs.OperationLimits.{HasFewOperations}
 use Rattle.pac_types.specs.Typing.{CatalogueState}
 use Rattle.pac_request.specs.Answers.{AnswersBy}
 use Rattle.pac_script.specs.Lines.{lines}
@@ -19,7 +18,8 @@ use Rattle.pac_script.specs.declared.step.ScriptStep.{ScriptStep}
 use Rattle.pac_script.specs.declared.step.ScriptStep.TheVariants.{Add, Flush}
 use Rattle.pac_script.specs.Batches.{fits, step_of, steps, AreCutInto}
 use Rattle.pac_script.specs.Cutting.{Cut, flushed, with_last, cut_all, nothing_cut, next_txn}
-use Rattle.pac_script.specs.Script.{Accepts, HasBatches, HasFewIn, IsPartsFault, PartsSay, lines_after}
+use Rattle.pac_script.specs.Script.{Accepts, HasBatches, IsPartsFault, PartsSay, lines_after}
+use Rattle.pac_types.specs.Accepted.{IsAccepted}
 use Rattle.pac_request.specs.ScriptLines.{ScriptLineSays}
 use Rattle.pac_script.specs.ScriptReading.{step_cut, asked_cut, IsSmallStep, IsSmallAsked, IsExcessFault, IsLineFault, IsLinesFault}
 use Rattle.pac_script.proofs.CutLemmas.{AllSmall, are_batches}
@@ -166,7 +166,7 @@ as_error {S} {T} e fault is = ap failed (error_is is)
     error_is : ◌≡◌ {A = Result S (Refusal ScriptFault)} (Err e) (Err (Fault fault)) → e ≡ Fault fault
     error_is h = cc
 
-line-parts : (prefix following : List ℕ) (catalogue : CatalogueState) (fault : ScriptFault) → HasFewIn prefix catalogue → IsLinesFault catalogue (lines_after following) fault → IsPartsFault prefix following fault
+line-parts : (prefix following : List ℕ) (catalogue : CatalogueState) (fault : ScriptFault) → IsAccepted prefix catalogue → IsLinesFault catalogue (lines_after following) fault → IsPartsFault prefix following fault
 line-parts prefix following catalogue (Line number fault) few is = (catalogue, few, is)
 line-parts prefix following catalogue (Catalogue fault) few is = absurd is
 line-parts prefix following catalogue (TooManyOps name count) few is = absurd is
@@ -177,12 +177,11 @@ excess-parts prefix following catalogue (Catalogue fault) has is = absurd is
 excess-parts prefix following catalogue (Line number fault) has is = absurd is
 
 -- the parts of a text whose catalogue has few operations
-pub few-parts : (prefix following : List ℕ) (catalogue : CatalogueState) (r : Result Script (Refusal ScriptFault)) → HasFewIn prefix catalogue
+pub few-parts : (prefix following : List ℕ) (catalogue : CatalogueState) (r : Result Script (Refusal ScriptFault)) → IsAccepted prefix catalogue
     → IfOk r (λ script. (script.catalogue ≡ catalogue) × HasBatches catalogue (lines_after following) script.batches)
     → ((fault : ScriptFault) → IsErrOf r (Fault fault) → IsLinesFault catalogue (lines_after following) fault) → AnswersBy (PartsSay prefix following) r
 few-parts prefix following catalogue (Ok script) few ok refused = record {
-  catalogue = subst (λ (c : CatalogueState). HasCatalogue prefix c) (sym ok.0) few.has;
-  few = subst (λ (c : CatalogueState). HasFewOperations c.procs) (sym ok.0) few.few;
+  accepted = subst (λ (c : CatalogueState). IsAccepted prefix c) (sym ok.0) few;
   batches = subst (λ (c : CatalogueState). HasBatches c (lines_after following) script.batches) (sym ok.0) ok.1;
 }
 few-parts prefix following catalogue (Err (Fault fault)) few ok refused = line-parts prefix following catalogue fault few (refused fault refl)

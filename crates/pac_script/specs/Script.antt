@@ -3,10 +3,11 @@ use Rattle.std.specs.Prelude.{◌≡◌, ◌+◌, ℕ, List, [], ◌∷◌, ◌+
 use Rattle.std.specs.List.{AllZip}
 use Rattle.std.specs.Option.{option_map}
 use Rattle.pac_ops.specs.declared.batch.Batch.{Batch}
+use Rattle.pac_types.specs.Accepted.{IsAccepted}
 use Rattle.pac_types.specs.Typing.{CatalogueState}
 use Rattle.pac_types.specs.CatalogueText.{HasCatalogue, IsCatalogueFault}
 use Rattle.pac_types.specs.declared.procedure.Proc.{Proc}
-use Rattle.pac_types.specs.OperationLimits.{HasFewOperations, IsFirstExcess}
+use Rattle.pac_types.specs.OperationLimits.{IsFirstExcess}
 use Rattle.pac_request.specs.declared.fault.LineFault.{LineFault}
 use Rattle.pac_request.specs.declared.request.Request.{Request}
 use Rattle.pac_script.specs.declared.script.Script.{Script}
@@ -62,10 +63,9 @@ pub record IsFirstRefused (catalogue : CatalogueState) (ls : List (List ℕ)) (n
 
 -- ---- scripts
 
--- the text before the mark is the catalogue's, whose procedures have few operations, and the lines after it have the batches
+-- the text before the mark is accepted with the catalogue, and the lines after it have the batches
 pub record HasParts (prefix after : List ℕ) (script : Script) : Type 0 where
-  pub catalogue : HasCatalogue prefix script.catalogue
-  pub few : HasFewOperations script.catalogue.procs
+  pub accepted : IsAccepted prefix script.catalogue
   pub batches : HasBatches script.catalogue (lines_after after) script.batches
 
 -- the procedure with this name is the first at which operations are too many, and that many are
@@ -74,17 +74,12 @@ pub record IsExcess (procs : List Proc) (name : List ℕ) (count : ℕ) : Type 0
   pub first : IsFirstExcess procs number count
   pub named : option_map (λ proc. proc.name) (slice_get procs number) ≡ Some name
 
--- the text before the mark has this catalogue, of few operations
-pub record HasFewIn (prefix : List ℕ) (catalogue : CatalogueState) : Type 0 where
-  pub has : HasCatalogue prefix catalogue
-  pub few : HasFewOperations catalogue.procs
-
 -- The first fault of the text before the mark and of the lines after it: that of the catalogue's text; where that has a catalogue, the
 -- first procedure at which operations are too many; and where they are few, the first line that is refused.
 abbrev pub IsPartsFault : List ℕ → List ℕ → ScriptFault → Type 0
 IsPartsFault prefix after (Catalogue fault) = IsCatalogueFault prefix fault
 IsPartsFault prefix after (TooManyOps name count) = (catalogue : CatalogueState) × HasCatalogue prefix catalogue × IsExcess catalogue.procs name count
-IsPartsFault prefix after (Line number fault) = (catalogue : CatalogueState) × HasFewIn prefix catalogue × IsFirstRefused catalogue (lines_after after) number fault
+IsPartsFault prefix after (Line number fault) = (catalogue : CatalogueState) × IsAccepted prefix catalogue × IsFirstRefused catalogue (lines_after after) number fault
 
 -- what the parts of a text are read as: this script, or this first fault
 abbrev pub PartsSay : List ℕ → List ℕ → Result Script ScriptFault → Type 0

@@ -4,7 +4,7 @@ ghost use Rattle.pac_outside.specs.Causes.{one_more};
 ghost use Rattle.pac_outside.specs.Devices.{OneFaulted, IfAllKnown, each};
 ghost use Rattle.pac_outside.specs.Disk.{BothKnown, IfKnown, settled};
 ghost use Rattle.pac_types.specs.Typing.{CatalogueState};
-ghost use Rattle.pac_log.specs.Logs.{IsAccepted};
+ghost use Rattle.pac_types.specs.Accepted.{IsAccepted};
 ghost use Rattle.pac_store.specs.Made.{AreEmpty, IsInUse, MakesStore};
 ghost use Rattle.pac_store.specs.declared.device.DeviceName.{DeviceName as ADevice};
 

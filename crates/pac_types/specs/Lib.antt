@@ -15,3 +15,4 @@ pub mod Fits
 pub mod CatalogueText
 pub mod CatalogueNames
 pub mod OperationLimits
+pub mod Accepted

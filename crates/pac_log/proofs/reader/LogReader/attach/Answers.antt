@@ -3,7 +3,7 @@ use Rattle.std.proofs.Common.{◌≡◌, ◌∙◌, ◌+◌, ℕ, List, take, dr
 use Rattle.pac_outside.specs.Disk.{IfKnown}
 use Rattle.pac_types.specs.Typing.{CatalogueState}
 use Rattle.pac_log.specs.declared.position.NextGate.{NextGate}
-use Rattle.pac_log.specs.Logs.{IsAccepted}
+use Rattle.pac_types.specs.Accepted.{IsAccepted}
 use Rattle.pac_log.proofs.HeaderLemmas.{attached}
 use Rattle.pac_log.proofs.reader.LogReader.attach.Goals as goal
 
