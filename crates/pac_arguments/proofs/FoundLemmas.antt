@@ -37,18 +37,6 @@ is_refused app arguments e other has = elim has [
 pub first_said : (f : Found) (id : Text) (o : Option (Bor Text)) → option_map (λ s. s.now) o ≡ first_value f id → first_of id (rows_of f) ≡ option_map (λ s. s.now) o
 first_said f id o e = sym (first_value-rows f id) ∙ sym e
 
-pub two_free : (name first second : Text) → is_simple_and_free (with_option second (with_option first (plain_app name))) ≡ true
-two_free name first second = refl
-
-pub plain_free : (name : Text) → is_simple_and_free (plain_app name) ≡ true
-plain_free name = refl
-
-pub flag_free : (name flag : Text) → is_simple_and_free (with_flag flag (plain_app name)) ≡ true
-flag_free name flag = refl
-
-pub operand_free : (name first second : Text) → is_simple_and_free (with_option second (with_operand first (plain_app name))) ≡ true
-operand_free name first second = refl
-
 pub said_some : (f : Found) (id : Text) (o : Option (Bor Text)) (t : Bor Text) → option_map (λ s. s.now) o ≡ first_value f id → o ≡ Some t → first_of id (rows_of f) ≡ Some t.now
 said_some f id o t e is = first_said f id o e ∙ ap (λ (x : Option (Bor Text)). option_map (λ s. s.now) x) is
 

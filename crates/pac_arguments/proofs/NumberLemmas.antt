@@ -7,8 +7,3 @@ few_small i n lt small =
     let most : 10 ^ i ≤ 10 ^ 7 = pow-le-pow_right {n = 10} (lit< tt) {i = i} {j = 7} (omega arith) in
     let is : 10 ^ 7 ≡ 10000000 = refl in
     omega arith
-
-pub one_more : (i n d : ℕ) → n < 10 ^ i → d < 10 → n * 10 + d < 10 ^ (i + 1)
-one_more i n d small digit =
-    let next : 10 ^ suc i ≡ 10 ^ i * 10 = pow-suc 10 i in
-    rw (add-one, next) (omega arith)

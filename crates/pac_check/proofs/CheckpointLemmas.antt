@@ -30,9 +30,6 @@ use Rattle.pac_check.specs.CheckpointReading.{slot_number, next_name, next_count
 
 -- ---- the head
 
-test_of_name : pointwise nat_eq checkpoint_name checkpoint_name ≡ true
-test_of_name = refl
-
 -- bytes that pass the test are these
 pub same_bytes : (a b : List ℕ) → pointwise nat_eq a b ≡ true → a ≡ b
 same_bytes [] [] h = refl

@@ -129,10 +129,6 @@ module _ (tables : List Table) (few : length tables < 65536) where
 begins_one : (tables : List Table) (state : SlotState) (disk : DiskState) → OneImage (IsSlot tables state) disk → OneImage (BeginsAs state) disk
 begins_one tables state disk alone = record { one = alone.one; has = begins tables state disk.seen alone.has }
 
-pub begins_known : (tables : List Table) (state : SlotState) (known : Option DiskHistory) → IfKnown (λ old. OneImage (IsSlot tables state) old.now) known → IfKnown (λ old. BeginsAs state old.now.seen) known
-begins_known tables state None alone = tt
-begins_known tables state (Some old) alone = begins tables state old.now.seen alone.has
-
 -- after a checkpoint was put into a slot, it is known again
 pub known_after : (tables : List Table) → length tables < 65536 → (state new_state : SlotState) (checkpoint : Checkpoint) (text : List ℕ) → IsCheckpoint tables checkpoint → text ≡ checkpoint_bytes checkpoint → (X : Type 0) {T E : Type 0} (result : Result T E) (old new : Option DiskHistory)
     → IfKnown (λ o. OneImage (IsSlot tables state) o.now) old → OnOk result (BothKnown (IsReplaced state text) old new) → OnOk result ((new_state ≡ Open checkpoint.head) × X) → OnOk result (IfKnown (λ n. OneImage (IsSlot tables new_state) n.now) new)

@@ -44,10 +44,6 @@ abbrev pub spots : ℕ → (Location → Bool) → Spot → Bool
 spots t f (RowAt a) = f (RowOf a)
 spots t f (VarAt x) = f (VarOf t x)
 
--- the locations of a step of transaction t: rows, and variables of t
-abbrev pub Own : ℕ → (Location → Bool) → Type 0
-Own t f = (u x : ℕ) → f (VarOf u x) ≡ true → u ≡ t
-
 pub seen_spot : (t : ℕ) (f : Location → Bool) (s s' : Present) → ((c : Location) → f c ≡ true → at_location s c ≡ at_location s' c) → AlikeOn (spots t f) (of_txn t s) (of_txn t s')
 seen_spot t f s s' alike (RowAt a) e = alike (RowOf a) e
 seen_spot t f s s' alike (VarAt x) e = alike (VarOf t x) e

@@ -30,9 +30,6 @@ use Rattle.pac_commute.proofs.Replays.{later_stays}
 below_true : (t n : ℕ) → t < n → nat_lt t n ≡ true
 below_true t n lt = grind (arith, nat_tests)
 
-above_false : (t n : ℕ) → n ≤ t → nat_lt t n ≡ false
-above_false t n le = grind (arith, nat_tests)
-
 -- ---- one transaction, with others after it
 
 module _ (n : ℕ) (envs : ℕ → Values) where

@@ -205,7 +205,3 @@ module _ (p : Progress) (u : Undoable) (core : IsCore p u) (place : Place) (work
       where
         same_txn : txn ≡ own.txn
         same_txn = same_Some txn own.txn (sym (txns.there own_job p core.progress place work.piece (as_placed at) txn txn_is) ∙ own.there)
-
-  -- where its access is whole it isn't
-  pub whole_foreign : access_at own_job (machine_of own_replay) work.piece ≡ Whole → IsOwn own_replay work → ⊥
-  whole_foreign whole (out, own) = own.named.keys whole

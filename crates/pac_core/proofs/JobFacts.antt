@@ -17,12 +17,6 @@ module _ (p : Progress) (u : Undoable) (core : IsCore p u) (parts : PlanParts) (
   none : (Is → ⊥) → IsTrue false ↔ Is
   none differ = ((λ t. absurd (true≢false (sym t))), (λ is. absurd (differ is)))
 
-  pub other_plan : (same : Bool) → same ≡ false → (IsTrue same ↔ (p.pieces ≡ parts)) → IsTrue false ↔ Is
-  other_plan same isnt is = none (λ all. true≢false (sym (is.1 (sym all.0)) ∙ isnt))
-
-  pub other_first : (p.first ≡ first → ⊥) → IsTrue false ↔ Is
-  other_first differ = none (λ all. differ (sym all.1))
-
   pub other_batches : (same : Bool) → same ≡ false → (IsTrue same ↔ (batches_of p ≡ batches)) → IsTrue false ↔ Is
   other_batches same isnt is = none (λ all. true≢false (sym (is.1 (sym all.2)) ∙ isnt))
 

@@ -29,14 +29,6 @@ gives_same : (os : List NumberedOp) (s : State) (x : ℕ) → give_value (unnumb
 gives_same [] s x = refl
 gives_same (o ∷ os) s x = ap (λ b. is_var x (var_given o.1 s) || b) (gives_same os (after_op o.1 s) x)
 
-defines_same : (os : List NumberedOp) (x : ℕ) → defined_in (unnumbered os) x ≡ defined_in os x
-defines_same [] x = refl
-defines_same (o ∷ os) x = ap (λ b. is_var x (defined_variable o.1.kind) || b) (defines_same os x)
-
-uses_same : (os : List NumberedOp) (x : ℕ) → used_in (unnumbered os) x ≡ used_in os x
-uses_same [] x = refl
-uses_same (o ∷ os) x = ap (λ b. op_uses x o.1 || b) (uses_same os x)
-
 pub record_named : (c : Change) → accessed_table (record_op c).kind ≡ Some (change_table c)
 record_named (PutRow table key row) = refl
 record_named (DeleteRow table key) = refl

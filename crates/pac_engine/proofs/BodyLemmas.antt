@@ -25,7 +25,3 @@ place-after (txn ∷ txns) gate = ap (λ (n : ℕ). gate.place + (1 + n)) (sym (
 pub txns-after : (txns : List Txn) (gate : NextGate) → (gate_past txns gate).txns ≡ gate.txns + length txns
 txns-after [] gate = omega arith
 txns-after (txn ∷ txns) gate = refl
-
-pub catalogue-after : (txns : List Txn) (gate : NextGate) → (gate_past txns gate).catalogue ≡ gate.catalogue
-catalogue-after [] gate = refl
-catalogue-after (txn ∷ txns) gate = refl

@@ -25,19 +25,6 @@ pub nothing_added : (text : List ℕ) (catalogue : CatalogueState) (batches : Li
 nothing_added text catalogue batches txns None = tt
 nothing_added text catalogue batches txns (Some h) = λ one. rests (HoldsLog text catalogue batches) (λ image. HoldsLog text catalogue batches image ⊎ HoldsLog text catalogue (with_batch batches txns) image) (λ image holds. inl holds) h one
 
-none_added : (text : List ℕ) (catalogue : CatalogueState) (batches : List (List Txn)) (known : Option DiskHistory) → BothKnown (HasAdded text catalogue batches []) known known
-none_added text catalogue batches None = tt
-none_added text catalogue batches (Some h) = λ one. one
-
-pub none_has_added : (text : List ℕ) (catalogue : CatalogueState) (batches : List (List Txn)) (txns : List Txn) → txns ≡ [] → (known : Option DiskHistory) → BothKnown (HasAdded text catalogue batches txns) known known
-none_has_added text catalogue batches txns none known = subst (λ (l : List Txn). BothKnown (HasAdded text catalogue batches l) known known) (sym none) (none_added text catalogue batches known)
-
-pub none_after : (text : List ℕ) (batches : List (List Txn)) (txns : List Txn) → txns ≡ [] → (gate : NextGate) → IsAfter text batches gate → IsAfter text (with_batch batches txns) gate
-none_after text batches txns none gate is = subst (λ (l : List Txn). IsAfter text (with_batch batches l) gate) (sym none) is
-
-pub no_gate : (txns : List Txn) (gate : NextGate) → txns ≡ [] → gate ≡ gate_past txns gate
-no_gate txns gate none = subst (λ (l : List Txn). gate ≡ gate_past l gate) (sym none) refl
-
 with_some : (batches : List (List Txn)) (txns : List Txn) → 0 < length txns → with_batch batches txns ≡ batches ++ txns ∷ []
 with_some batches [] some = absurd (omega (arith, some))
 with_some batches (txn ∷ txns) some = refl

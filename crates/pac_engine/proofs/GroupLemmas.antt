@@ -60,12 +60,6 @@ group-closed start group now is = record { answers = refl; body = refl; here = i
 
 -- ---- where a request cuts
 
--- a cut after no group
-after-none : (group : List Request) (b : Bool) → cut_after (record { closed = []; rest = group }) (if b then record { closed = group ∷ []; rest = [] } else record { closed = []; rest = group })
-    ≡ (if b then record { closed = group ∷ []; rest = [] } else record { closed = []; rest = group })
-after-none group true = refl
-after-none group false = refl
-
 module _ (rules : Rules) (start : SessionState) (group : List Request) (asked : Request) where
   abbrev test : Bool
   test = is_closing asked || nat_le rules.most (length (replies rules start (group ++ asked ∷ [])))
@@ -165,9 +159,6 @@ module _ (rules : Rules) (place : ℕ) (start : SessionState) (closed : List (Li
   pub closed-stops : (given : List Reply) → given ≡ replies rules start one → StopsAt rules place start closed given NoMemory
   closed-stops given gave = inl (record { before = described rules place start closed; rest = []; split = sym (append-nil (described rules place start closed)); replied = gave ∙ sym (append-nil (replies rules start one)) ∙ sym (ap (λ (g : List Group). all_replies g) one-described) })
 
-pub memory-stops : (rules : Rules) (place : ℕ) (start : SessionState) (closed : List (List Request)) (cause : EngineCause) (given : List Reply) → given ≡ [] → cause ≡ NoMemory → StopsAt rules place start closed given cause
-memory-stops rules place start closed cause given none is = subst (λ (c : EngineCause). StopsAt rules place start closed given c) (sym is) (inl (record { before = []; rest = described rules place start closed; split = refl; replied = none }))
-
 -- ---- a save
 
 -- a save commits nothing
@@ -234,8 +225,3 @@ module _ (e : EngineParts) (start : SessionState) (group : List Request) (is : I
     save-stops (LogFull need) on full large = absurd (full need refl)
     save-stops Ended on full large = absurd (on refl)
     save-stops (TooLarge bytes) on full large = let much = large bytes refl in save-large bytes much.0 much.1
-
--- what a checkpoint takes is said of the group before it is closed
-pub saved-small : (e : EngineParts) → slot_len (rules_of e.session) (state_now (with_closed e.session)) (gate_past e.session.txns e.log.gate).place ≤ MAX_SLOT_LEN → slot_len (rules_of e.session) (state_now e.session) (place_after_group e.log.gate.place e.session.txns) ≤ MAX_SLOT_LEN
-saved-small e small = subst (λ (n : ℕ). n ≤ MAX_SLOT_LEN)
-    (ap (λ (s : SessionState). slot_len (rules_of e.session) s (gate_past e.session.txns e.log.gate).place) (closed-state e.session) ∙ ap (λ (p : ℕ). slot_len (rules_of e.session) (state_now e.session) p) (place-after e.session.txns e.log.gate)) small

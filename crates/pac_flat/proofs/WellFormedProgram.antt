@@ -105,9 +105,6 @@ module _ (tables : List Table) (params : List Ty) where
   sees-types : (f : Scope) (before : List FlatOp) (conds : Conditions) → Sees f before conds → Within f (scope_in (T before))
   sees-types f before conds sees x ty h = (sees x ty h).0
 
-  sees-less : (f g : Scope) (before : List FlatOp) (conds : Conditions) → Within g f → Sees f before conds → Sees g before conds
-  sees-less f g before conds w sees x ty h = sees x ty (w x ty h)
-
   fine-append : (before xs ys : List FlatOp) → FineFrom before xs → FineFrom (before ++ xs) ys → FineFrom before (xs ++ ys)
   fine-append before [] ys h g = subst (λ l. FineFrom l ys) (append-nil before) g
   fine-append before (x ∷ xs) ys h g = (h.0, fine-append (before ++ x ∷ []) xs ys h.1 (subst (λ l. FineFrom l ys) (sym (append_assoc before (x ∷ []) xs)) g))

@@ -29,10 +29,6 @@ adds_then a b c more more' first second = record {
 }
 
 module _ (edges : ℕ → ℕ → ℕ → Type 0) where
-  -- at the start, where the numbers passed over stand for no edge
-  pub upto_none : (g : Graph) (n : ℕ) → ((i : ℕ) → i < n → (u v : ℕ) → edges i u v → ⊥) → Adds g (IsUpTo edges n) g
-  upto_none g n none = adds_none g (IsUpTo edges n) (λ u v (i, lt, e). none i lt u v e)
-
   more : (n u v : ℕ) → (IsUpTo edges n u v ⊎ edges n u v) ↔ IsUpTo edges (n + 1) u v
   more n u v = (to, from)
     where

@@ -57,23 +57,6 @@ module _ (edge before : ℕ → ℕ → Type 0) (count : ℕ) (numbers passed : 
   pub open_class : (class : ℕ) → class < count → turn ≤ get_or numbers class 0 → get_or numbers class 0 ≡ count
   open_class class lt ge = elim (t.numbered class lt) [ inl has ↦ absurd (omega (arith, has, ge)) | inr none ↦ none ]
 
-  -- the classes with an edge into a class had their turns, as far as they are passed
-  pub passed_to : (class upto : ℕ) → class < count → ((other : ℕ) → other < upto → edge other class → get_or numbers other 0 < turn) → AreTurns edge before count numbers (set passed class upto) turn
-  passed_to class upto lt below = record {
-    size = t.size;
-    passed_size = length-set passed class upto ∙ t.passed_size;
-    room = t.room;
-    few = t.few;
-    numbered = t.numbered;
-    each = t.each;
-    ready = t.ready;
-    least = t.least;
-    seen = λ c o lc lo e. elim (cases_eq c class) [
-      | inl same ↦ (let now : get_or (set passed class upto) c 0 ≡ upto = ap (λ k. get_or (set passed class upto) k 0) same ∙ get_or-set_same passed class upto 0 (omega (arith, lt, t.passed_size)) in below o (omega (arith, lo, now)) (subst (λ k. edge o k) same e))
-      | inr ne ↦ (let now : get_or (set passed class upto) c 0 ≡ get_or passed c 0 = get_or-set_other passed class c upto 0 ne in t.seen c o lc (omega (arith, lo, now)) e)
-    ];
-  }
-
   -- all had their turns
   pub finished : ((c : ℕ) → c < count → get_or numbers c 0 < turn) → IsInTurn edge before count numbers
   finished all = record {

@@ -131,28 +131,6 @@ module _ (edge : ℕ → ℕ → Type 0) (nodes : ℕ) where
       | inr new ↦ visit.back p new lt
     ]
 
-    -- the next edge leads to a node that is done
-    pub met_done : (to c : ℕ) → ((v : ℕ) → at ≤ v → v < to → edge node v → ⊥) → mark_of marks to ≡ Done c → IsVisit edge nodes marks_before stack_before marks stack count node low (to + 1)
-    met_done to c none is = record {
-      search = s;
-      longer = visit.longer;
-      here = visit.here;
-      prefix = visit.prefix;
-      kept = visit.kept;
-      in_low = visit.in_low;
-      reached = visit.reached;
-      back = visit.back;
-      closed = visit.closed;
-      less = visit.less;
-      row = λ v lt e. elim (cases_lt v at) [
-        | inl old ↦ visit.row v old e
-        | inr new ↦ elim (cases_lt v to) [
-          | inl between ↦ absurd (none v new between e)
-          | inr ge ↦ (let same : to ≡ v = omega arith in subst (λ x. IsSeenFrom marks low x) same (inl (c, is)))
-        ]
-      ];
-    }
-
     -- it leads to a node on the stack
     pub met_open : (to there : ℕ) → edge node to → ((v : ℕ) → at ≤ v → v < to → edge node v → ⊥) → mark_of marks to ≡ Open there → IsVisit edge nodes marks_before stack_before marks stack count node (min low there) (to + 1)
     met_open to there e none is = record {

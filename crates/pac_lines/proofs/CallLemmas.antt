@@ -21,23 +21,6 @@ pub record IsReading (before now : ReaderState) (left left' : Option (List ℕ))
   pub counted : now.taken ≡ before.taken + length given
   pub limit : now.limit ≡ before.limit
 
--- nothing was read
-pub nothing_read : (before : ReaderState) (left : Option (List ℕ)) → IsReading before before left left
-nothing_read before left = record {
-  given = [];
-  gave = sym (prepend_known-nil left);
-  read = inl refl;
-  ahead = sym (append-nil before.ahead);
-  counted = omega arith;
-  limit = refl;
-}
-
--- where no line feed was found, all is as before
-pub still_reading : (before now : ReaderState) (left left' : Option (List ℕ)) (old new : AheadState) (taken limit : ℕ) → record { line = old.line; ahead = old.bytes; taken = taken; limit = limit } ≡ now → new ≡ old
-    → IsReading before now left left' → IsReading before (record { line = new.line; ahead = new.bytes; taken = taken; limit = limit }) left left'
-still_reading before now left left' old new taken limit is same reading =
-    subst (λ (s : ReaderState). IsReading before s left left') (sym (ap (λ (a : AheadState). record { line = a.line; ahead = a.bytes; taken = taken; limit = limit }) same ∙ is)) reading
-
 -- a read more, where no line feed was ahead
 pub one_more_read : (before now next : ReaderState) (left mid left' : Option (List ℕ)) (count : ℕ) → IsReading before now left mid → HasNoFeed now.ahead → IsChunk now next mid left' count
     → IsReading before next left left'

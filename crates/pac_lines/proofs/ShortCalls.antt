@@ -6,7 +6,7 @@ use Rattle.pac_lines.specs.Calls.{IsCall, IsChunk}
 use Rattle.pac_lines.specs.Short.{IsShort, IsShortCall, IsShortOf, ShortState, kept}
 use Rattle.pac_lines.specs.declared.line_error.LineError.{LineError}
 use Rattle.pac_lines.specs.declared.line_error.LineError.TheVariants.{Failed, TooLong}
-use Rattle.pac_lines.proofs.CallLemmas.{IsReading, answers_error, answers_line, answers_rest, feed_stays, nothing_read, one_more_read}
+use Rattle.pac_lines.proofs.CallLemmas.{IsReading, answers_error, answers_line, answers_rest, feed_stays, one_more_read}
 use Rattle.pac_lines.proofs.ShortLemmas.{all_held, ended_line, front_held, more_held, no_line_whole, same_feed, same_front, same_some}
 
 -- reads alone, as of a reader that leaves nothing out
@@ -14,10 +14,6 @@ pub record IsReadingShort (before : ReaderState) (now : ShortState) (left left' 
   pub whole : ReaderState
   pub reading : IsReading before whole left left'
   pub short : IsShortOf whole now
-
--- nothing was read
-pub nothing_read_short : (before : ReaderState) (reader : ShortState) (left : Option (List ℕ)) → IsShortOf before reader → IsReadingShort before reader left left
-nothing_read_short before reader left short = record { whole = before; reading = nothing_read before left; short = short }
 
 -- a reader that left nothing out yet
 pub short_of_itself : (reader : ShortState) → IsShortOf reader.state reader

@@ -150,10 +150,6 @@ take_min n most xs long = by (ltb most n) refl
         let few : n ≤ most = ltb-false _ _ is in
         ap (λ (k : ℕ). take k xs) (min-eq_left few) ∙ take_all n xs (omega (arith, long)) ∙ sym (take_all most xs (omega (arith, few, long)))
 
--- a line is handed out up to a byte more than the most
-pub front_of : (line copy : List ℕ) (count n most : ℕ) → copy ≡ line → n ≡ length line → count ≡ min n most → take count copy ≡ take most line
-front_of line copy count n most same long is = ap (take count) same ∙ ap (λ (k : ℕ). take k line) is ∙ take_min n most line (sym long)
-
 pub kept_bytes : (items : List ℕ) (len next count most : ℕ) → len ≡ length items → next ≤ len → count ≡ min (len - next) most → drop next (take (next + count) items) ≡ take most (drop next items)
 kept_bytes items len next count most long within is =
     drop-take next count items ∙ ap (λ (k : ℕ). take k (drop next items)) is ∙ take_min (len - next) most (drop next items) (omega (arith, length-drop next items, long, within))

@@ -27,12 +27,6 @@ module _ {A F : Type 0} (short left : ℕ → F) (read : Rest → Result (A × R
       let there : ltb (length (drop at bytes)) n ≡ false = le-ltb _ _ (omega (arith, length-drop at bytes)) in
       rw (there, ← drop-take at n bytes, drop-drop n at bytes) refl
 
-  -- too few bytes are there
-  pub within_short : length bytes < at + n → at ≤ length bytes → within short left n read (from bytes at) ≡ Err (short at)
-  within_short few inside =
-      let cut : ltb (length (drop at bytes)) n ≡ true = lt-ltb _ _ (omega (arith, length-drop at bytes)) in
-      rw cut refl
-
   -- no byte is left after it
   pub within_filled : (x : A) (place : ℕ) → at + n ≤ length bytes → at + n ≤ place → read (from (take (at + n) bytes) at) ≡ Ok (x, from (take (at + n) bytes) place)
       → within short left n read (from bytes at) ≡ Ok (x, from bytes (at + n))
@@ -62,9 +56,6 @@ module _ (catalogue : CatalogueState) (count at len first : ℕ) (bytes : List �
   counted_so =
       let small : ltb MAX_ENTRIES_LEN len ≡ false = le-ltb _ _ few in
       rw (number, small) refl
-
-  pub counted_short : length bytes < first + (len + 1) → first ≤ length bytes → counted_link catalogue count (from bytes at) ≡ Err (short_from first)
-  counted_short cut inside = counted_so ∙ within_short short_from out_of_range (entries_and_gate catalogue count len) bytes first (len + 1) cut inside
 
   pub counted_ok : (link : Link) (end : ℕ) → first + (len + 1) ≤ length bytes → end ≡ first + (len + 1) → entries_and_gate catalogue count len (from (take (first + (len + 1)) bytes) first) ≡ Ok (link, from (take (first + (len + 1)) bytes) end)
       → counted_link catalogue count (from bytes at) ≡ Ok (link, from bytes end)

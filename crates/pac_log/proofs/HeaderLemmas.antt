@@ -41,15 +41,6 @@ pub text_of_store : (text : List ℕ) (catalogue : CatalogueState) (image : List
 text_of_store text catalogue image is =
     ap (λ (x : List ℕ). drop 12 x) (is.split ∙ header_parts text (is.gate ∷ is.rest)) ∙ drop_at (head_bytes (length text)) (text ++ (is.gate ∷ is.rest)) 12 (head_long (length text))
 
--- the text and one byte more were there
-pub text_there : (text : List ℕ) (catalogue : CatalogueState) (image : List ℕ) (len : ℕ) → IsStore text catalogue image → length text ≡ len → (len < length (take (len + 1) (drop 12 image))) × (take len (take (len + 1) (drop 12 image)) ≡ text)
-text_there text catalogue image len is e =
-    let after = text_of_store text catalogue image is in
-    let lens : length (drop 12 image) ≡ length (text ++ (is.gate ∷ is.rest)) = ap (λ (x : List ℕ). length x) after in (
-      omega (arith, length-take (len + 1) (drop 12 image), lens, length-append text (is.gate ∷ is.rest), e),
-      take-take len (len + 1) (drop 12 image) (omega arith) ∙ ap (λ (x : List ℕ). take len x) after ∙ take_at text (is.gate ∷ is.rest) len e,
-    )
-
 gate_there : (image rest : List ℕ) (len : ℕ) → len < length (take (len + 1) image) → (gate : ℕ) × (more : List ℕ) × (drop len image ≡ gate ∷ more)
 gate_there image rest len long = by (drop len image) refl
   where
@@ -111,19 +102,3 @@ attached (Some old) head text len gate is long accepted placed none prefix after
     = subst (λ (t : List ℕ). IsStore (take len t) gate.catalogue image) (sym after)
     (store_there gate.catalogue image len (sym prefix ∙ is) (subst (λ (t : List ℕ). len < length t) after long) (subst (λ (t : List ℕ). IsAccepted (take len t) gate.catalogue) after accepted)) in
     (take len text, store, first_stands (take len text) gate image len store (omega (arith, length-take len text, long)) placed none)
-
--- no header where the prefix is none
-pub no_head : (known : Option DiskHistory) (head : List ℕ) → IfKnown (λ old. head ≡ take 12 (drop 0 old.now.seen)) known → ((text : List ℕ) → length text ≤ MAX_CATALOGUE → head ≡ head_bytes (length text) → ⊥)
-    → IfKnown (λ old. (text : List ℕ) (catalogue : CatalogueState) → IsStore text catalogue old.now.seen → ⊥) known
-no_head None head prefix none = tt
-no_head (Some old) head prefix none = λ text catalogue is. none text is.accepted.has.reads.short (prefix ∙ head_of_store text catalogue old.now.seen is)
-
--- no header where the text is cut short, or has no catalogue
-pub no_text : (known : Option DiskHistory) (head text : List ℕ) (len : ℕ) → head ≡ head_bytes len → len ≤ MAX_CATALOGUE → IfKnown (λ old. head ≡ take 12 (drop 0 old.now.seen)) known → IfKnown (λ old. text ≡ take (len + 1) (drop 12 old.now.seen)) known
-    → (len < length text → (catalogue : CatalogueState) → IsAccepted (take len text) catalogue → ⊥)
-    → IfKnown (λ old. (t : List ℕ) (catalogue : CatalogueState) → IsStore t catalogue old.now.seen → ⊥) known
-no_text None head text len is few prefix after none = tt
-no_text (Some old) head text len is few prefix after none = λ t catalogue store.
-    let lens : length t ≡ len = same_len (length t) len store.accepted.has.reads.short few (sym (head_of_store t catalogue old.now.seen store) ∙ sym prefix ∙ is) in
-    let there = text_there t catalogue old.now.seen len store lens in
-    none (subst (λ (x : List ℕ). len < length x) (sym after) there.0) catalogue (subst (λ (x : List ℕ). IsAccepted x catalogue) (sym there.1 ∙ ap (λ (x : List ℕ). take len x) (sym after)) store.accepted)

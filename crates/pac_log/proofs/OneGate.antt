@@ -40,9 +40,6 @@ txns_of_gate text batches place n is = ap (λ (b : List (List Txn)). all_txns b)
 pub few : (text : List ℕ) (batches : List (List Txn)) (place n : ℕ) → HasGate text batches place n → n ≤ length (all_txns batches)
 few text batches place n is = omega (arith, is.counted, ap (λ (l : List Txn). length l) (txns_of_gate text batches place n is), length-append (all_txns is.before) (all_txns is.after))
 
-pub before_gate : (text : List ℕ) (batches : List (List Txn)) (place n : ℕ) → (is : HasGate text batches place n) → take n (all_txns batches) ≡ all_txns is.before
-before_gate text batches place n is = ap (λ (l : List Txn). take n l) (txns_of_gate text batches place n is) ∙ take_at (all_txns is.before) (all_txns is.after) n (sym is.counted)
-
 pub after_gate : (text : List ℕ) (batches : List (List Txn)) (place n : ℕ) → (is : HasGate text batches place n) → drop n (all_txns batches) ≡ all_txns is.after
 after_gate text batches place n is = ap (λ (l : List Txn). drop n l) (txns_of_gate text batches place n is) ∙ drop_at (all_txns is.before) (all_txns is.after) n (sym is.counted)
 

@@ -28,10 +28,6 @@ abbrev pub Typed : Ty → Result Value Trap → Type 0
 Typed ty (Ok v) = type_of v ≡ ty
 Typed ty (Err trap) = Unit {0}
 
-then_typed : (ty : Ty) (P : Value → Type 0) (r : Result Value Trap) (f : Value → Result Value Trap) → ((v : Value) → r ≡ Ok v → Typed ty (f v)) → Typed ty (r >>= f)
-then_typed ty P (Ok v) f h = h v refl
-then_typed ty P (Err trap) f h = tt
-
 checked_typed : (z : ℤ) → Typed IntTy (checked z)
 checked_typed z = go (is_int z)
   where

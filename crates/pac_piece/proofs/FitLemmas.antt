@@ -42,9 +42,6 @@ bool_some None h = cc
 bool_some (Some ty) h = refl
 
 module _ (vars : List Ty) (env : Values) where
-  Finds : (ℕ → Bool) → Type 0
-  Finds uses = (x : ℕ) → uses x ≡ true → HasTyped vars env x
-
   some_over : (e : Expr) → ((x : ℕ) → expr_uses x e ≡ true → HasTyped vars env x) → IsSome (type_in (scope_in vars) e) → IsSome (type_in (types_of env) e)
   some_over e f h = subst (λ t. IsSome t) (sym (typed_over vars env e f)) h
 

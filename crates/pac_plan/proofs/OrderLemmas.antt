@@ -58,9 +58,6 @@ accessed_there tables program i t well_formed accesses =
     table_there tables (scope_in program.vars) op.0.kind t (well_formed.typed i op.0 op.1) op.2
 
 module _ (parts : PlanParts) (is : IsPlan parts) where
-  links : Node → Node → Type 0
-  links = IsNodeLink parts.programs (length parts.tables)
-
   groups : AreGroups (IsNode parts.programs (length parts.tables)) ComesBefore (IsNodeLink parts.programs (length parts.tables)) (Flows parts.programs) (block_in parts) parts.blocks parts.edges
   groups = is.analysis.groups
 

@@ -63,9 +63,6 @@ begun_written p b = record { form = b.form; few = b.few; text = b.text; says = r
 
 -- ---- what is read
 
-abbrev Taken : List Spanned → LineSteps → LineNode → Type 0
-Taken ts k said = Wants k ts said
-
 taken_end : (end : LineFault) (k : LineSteps) (said : LineNode) (o : Option LineNode) → said_at_end k ≡ o → ok_or o end ≡ Ok said → Wants k [] said
 taken_end end k said None is e = absurd (no_both said end (sym e))
 taken_end end k said (Some node) is e = ends_here k said (is ∙ same node e)

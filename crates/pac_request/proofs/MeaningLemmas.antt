@@ -37,13 +37,6 @@ more_preceding vs v (Ok ws) = ap (λ (x : List Value). ok x) (sym (append_assoc 
     ok x = Ok x
 more_preceding vs v (Err f) = refl
 
-nothing_preceding : (r : Values) → preceding [] r ≡ r
-nothing_preceding (Ok ws) = refl
-nothing_preceding (Err f) = refl
-
-pub values_start : (tys : List Ty) (ls : List PlacedLiteral) (vs : List Value) → vs ≡ [] → preceding vs (asked_values tys ls) ≡ asked_values tys ls
-values_start tys ls vs e = rw e (nothing_preceding (asked_values tys ls))
-
 pub values_on : (vs ws : List Value) (t : Ty) (tys us : List Ty) (l : PlacedLiteral) (ls ks : List PlacedLiteral) (v : Value) (all : Values) → us ≡ t ∷ tys → ks ≡ l ∷ ls → ws ≡ vs ++ (v ∷ []) → Ok v ≡ asked_value t l
     → preceding vs (asked_values us ks) ≡ all → preceding ws (asked_values tys ls) ≡ all
 unfolding asked_values
@@ -138,13 +131,6 @@ changed x = Ok x
 more_changes : (cs : List Change) (c : Change) (r : Changes) → changes_before cs (r >>= λ ds. Ok (c ∷ ds)) ≡ changes_before (cs ++ (c ∷ [])) r
 more_changes cs c (Ok ds) = ap changed (sym (append_assoc cs (c ∷ []) ds))
 more_changes cs c (Err f) = refl
-
-no_changes : (r : Changes) → changes_before [] r ≡ r
-no_changes (Ok ds) = refl
-no_changes (Err f) = refl
-
-pub changes_start : (tables : List Table) (rs : List RecordNode) (cs : List Change) → cs ≡ [] → changes_before cs (asked_changes tables rs) ≡ asked_changes tables rs
-changes_start tables rs cs e = rw e (no_changes (asked_changes tables rs))
 
 pub changes_on : (tables : List Table) (cs ds : List Change) (r : RecordNode) (rs all_rs : List RecordNode) (c : Change) (all : Changes) → all_rs ≡ r ∷ rs → ds ≡ cs ++ (c ∷ []) → asked_change tables r ≡ Ok c
     → changes_before cs (asked_changes tables all_rs) ≡ all → changes_before ds (asked_changes tables rs) ≡ all

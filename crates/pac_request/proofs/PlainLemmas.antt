@@ -37,7 +37,7 @@ use Rattle.pac_request.specs.RequestMeaning.{value_of, proc_at, asked_values, as
 use Rattle.pac_request.specs.PlainCalls.{LineGoesOn, LineReadsTo, IsCalled, arguments_after, argument_at, is_none, TakesLiteral, IsLiteralRead, IsEndRead, LineEndsWith, HasArguments, AsksPlainly}
 use Rattle.pac_request.proofs.LineOnce.{short_says, in_place_says}
 use Rattle.pac_request.proofs.RequestFitLemmas.{asked_fits}
-use Rattle.pac_request.proofs.MeaningLemmas.{preceding, values_start, values_on, values_done, values_fit}
+use Rattle.pac_request.proofs.MeaningLemmas.{preceding, values_on, values_done, values_fit}
 
 -- ---- one token
 
@@ -165,9 +165,6 @@ pub record ReadSoFar (text rest : List ℕ) (k : List PlacedLiteral → LineStep
 -- the same of each line and of all that may come after it
 abbrev pub SoFar : List ℕ → List ℕ → Bool → List Ty → List Ty → List Value → Type 0
 SoFar bytes rest is_first tys left vs = (text : List ℕ) (k : List PlacedLiteral → LineSteps) → LineReadsTo text bytes (AllArguments k) → ReadSoFar text rest k is_first tys left vs
-
-pub none_yet : (bytes : List ℕ) (tys : List Ty) (vs : List Value) → vs ≡ [] → SoFar bytes bytes true tys tys vs
-none_yet bytes tys vs none = λ text k from. record { literals = []; first = refl; many = omega arith; read = from; values = λ more. values_start tys more vs none }
 
 pub one_more : (bytes rest here following : List ℕ) (is_first : Bool) (wanted : Ty) (tys left more : List Ty) (vs ws : List Value) (v : Value) → left ≡ wanted ∷ more → TakesLiteral is_first rest here → IsLiteralRead here v following
     → value_of wanted v ≡ Some v → ws ≡ vs ++ (v ∷ []) → SoFar bytes rest is_first tys left vs → SoFar bytes following false tys more ws

@@ -2,7 +2,8 @@
 //!
 //! - [`read_line`]: what a line asks of a catalogue, a [`Request`] that fits it; nothing, for white space and a
 //!   comment; or its first [`LineFault`], with an offset in the line and one of seven [`LineFaultKind`]s.
-//! - [`read_line_with`]: the same, in the room of a list that isn't wanted any more. [`read_script_line`]: the same for a line of a script, where `show`, `save` and `stop` are refused.
+//! - [`read_line_with`]: the same, in the room of a list that isn't wanted any more. [`read_script_line`]: the same for a line of a
+//!   script, where `show`, `save` and `stop` are refused.
 //! - [`Reply`], [`Replies`]: the answers to requests, as data.
 //!
 //! ```
@@ -19,8 +20,9 @@
 //! `RequestFits` (requests that fit a catalogue) and `LineKinds` (how kinds are printed). What a line says is what is
 //! returned, and nothing else, but for out of memory (`says`, `only`).
 //!
-//! The parser is proved against a machine that takes one token at a time (`specs/LineSteps.antt`); no public clause names it. A call whose arguments are texts and ints without a `-`, as most lines are, is read from its bytes without a
-//! list of tokens: `specs/PlainCalls.antt` defines that, and `proofs/PlainLemmas.antt` shows that both readings agree.
+//! The parser is proved against a machine that takes one token at a time (`specs/LineSteps.antt`); no public clause names it. A
+//! call whose arguments are texts and ints without a `-`, as most lines are, is read from its bytes without a list of tokens:
+//! `specs/PlainCalls.antt` defines that, and `proofs/PlainLemmas.antt` shows that both readings agree.
 #![tactic(auto)]
 
 mod fault;

@@ -89,9 +89,6 @@ one_piece s p q i e f =
 
 -- ---- pieces that don't wait
 
-held : PieceState → Bool
-held state = not (is_waiting state)
-
 abbrev Holds : Schedule → PieceId → Type 0
 Holds s id = some_passes (λ state. not (is_waiting state)) (state_of_piece s id) ≡ true
 

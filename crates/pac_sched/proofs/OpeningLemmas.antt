@@ -24,12 +24,6 @@ equal a b = grind arith
 
 -- ---- pairs behind others
 
--- one more pair is moved
-pub moved_more : (old new all : List (ℕ × ℕ)) (n k a b : ℕ) → k < length new → (a, b) ≡ get_or new k (0, 0) → all ≡ old ++ moved_by n (take k new) → all ++ (n + a, n + b) ∷ [] ≡ old ++ moved_by n (take (k + 1) new)
-moved_more old new all n k a b lt e h =
-    ap (λ xs. xs ++ (n + a, n + b) ∷ []) h ∙ append_assoc old (moved_by n (take k new)) ((n + a, n + b) ∷ [])
-    ∙ ap (λ xs. old ++ xs) (ap (λ (pair : ℕ × ℕ). moved_by n (take k new) ++ (n + pair.0, n + pair.1) ∷ []) e ∙ sym (map_more (λ (pair : ℕ × ℕ). (n + pair.0, n + pair.1)) new k (0, 0) lt))
-
 -- pairs of positions in two lists one after the other
 pub inside_more : (n m : ℕ) (old new : List (ℕ × ℕ)) → AreInside n old → ArePairsBelow m new → AreEarlierLater new → AreInside (n + m) (old ++ moved_by n new)
 inside_more n m old new a w e = All-append (λ (pair : ℕ × ℕ). (pair.0 < n + m) × (pair.1 < n + m)) old (moved_by n new)

@@ -43,8 +43,5 @@ counts-loop : (s : Stmt) (x : ℕ) (from to : ℤ) (body : List Stmt) → IsLoop
 counts-loop s x from to body is all =
     ap (λ (c : Code). c.count) (is Code code_step) ∙ ap (λ k. turns from to * k) (counts_all body all) ∙ sym (is ℕ count_step)
 
-pub count-operations : (s : Stmt) → (code s).count ≡ stmt_operations s
-count-operations = by_shape CountsAlike counts-one counts-conditional counts-loop
-
 pub count-all-operations : (ss : List Stmt) → code_count ss ≡ operations ss
 count-all-operations ss = counts_all ss (all_by_shape CountsAlike counts-one counts-conditional counts-loop ss)

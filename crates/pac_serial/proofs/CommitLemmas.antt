@@ -283,10 +283,6 @@ partly-take t zero cs x le = refl
 partly-take t (suc n) [] x le = absurd (omega arith)
 partly-take t (suc n) (c ∷ cs) x le = ap (λ (es : List Change). exchanged t c ∷ es) (partly-take t n cs x (omega arith))
 
-pub partly-all : (t : Tables) (cs : List Change) → partly t (length cs) cs ≡ map (exchanged t) cs
-partly-all t [] = refl
-partly-all t (c ∷ cs) = ap (λ (es : List Change). exchanged t c ∷ es) (partly-all t cs)
-
 pub cells-append : (cs ds : List Change) → cells (cs ++ ds) ≡ cells cs ++ cells ds
 cells-append [] ds = refl
 cells-append (c ∷ cs) ds = ap (λ ps. c.0 ∷ ps) (cells-append cs ds)

@@ -15,10 +15,3 @@ pub sets_antisymmetric : IsAntisymmetric set_cmp
 sets_antisymmetric a b h =
     let same : (a.batch, a.block) ≡ (b.batch, b.block) = exact_pairs nat_cmp nat_cmp exact_unsigned exact_unsigned (a.batch, a.block) (b.batch, b.block) h in
     ap (λ (p : ℕ × ℕ). let set : SetId = record { batch = p.0; block = p.1 } in set) same
-
-pub same_set : (s : SetId) → eq_by_cmp set_cmp s s ≡ true
-same_set s = ap is_eq (tied_itself sets_total s)
-
--- sets that tie are one
-pub tied_sets : (a b : SetId) → eq_by_cmp set_cmp a b ≡ true → a ≡ b
-tied_sets a b h = sets_antisymmetric a b ((Equal-is (set_cmp a b)).0 h)

@@ -53,16 +53,6 @@ one_source edges edge blocks old new adds are = record { all = adds.all ∙ are.
             (subst (λ (items : List ℕ). AreSources (edges ++ edge ∷ []) edge.1 items) (sym was.2) (own_source edges edge was.0.items (are.each edge.1 was.0 was.1)))
         go (inr other) = other_source edges edge block list.items other (are.each block list (adds.others block list other there))
 
--- with no edges, no block leads to any
-pub no_sources : (blocks : ℕ) (sources : List (Vec ℕ Global)) → length sources ≡ blocks → ((block : ℕ) (list : Vec ℕ Global) → slice_get sources block ≡ Some list → list.items ≡ []) → AreAllSources [] blocks sources
-no_sources blocks sources all none = record { all = all; each = λ block list there from. (λ h. absurd (nothing from (subst (λ (items : List ℕ). Contains items from) (none block list there) h)), λ h. absurd (nothing_either block from h)) }
-  where
-    nothing : (from : ℕ) → Contains [] from → ⊥
-    nothing from (k, lt, is) = omega arith
-
-    nothing_either : (block from : ℕ) → Contains {X = ℕ × ℕ} [] (from, block) → ⊥
-    nothing_either block from (k, lt, is) = omega arith
-
 -- a block's list with one more
 pub source_added : (edge : ℕ × ℕ) (old : List (Vec ℕ Global)) (to : ℕ) (was list : Vec ℕ Global) → to ≡ edge.1 → to < length old → was ≡ get_or old to was → list.items ≡ was.items ++ edge.0 ∷ [] → AddsSource edge old (set old to list)
 source_added edge old to was list of within read items = record { all = length-set old to list; own = own; others = others }
@@ -86,21 +76,3 @@ source_outside edge old to of past = record {
   own = λ l there. let lt : edge.1 < length old = slice_get_within old edge.1 l there in absurd (omega arith);
   others = λ block l other there. there;
 }
-
--- one list more, in which nothing stands
-pub one_empty : (lists : List (Vec ℕ Global)) (last : Vec ℕ Global) → ((block : ℕ) (list : Vec ℕ Global) → slice_get lists block ≡ Some list → list.items ≡ []) → last.items ≡ []
-    → (block : ℕ) (list : Vec ℕ Global) → slice_get (lists ++ last ∷ []) block ≡ Some list → list.items ≡ []
-one_empty lists last old new block list there = go (cases_lt block (length lists))
-  where
-    read : get_or (lists ++ last ∷ []) block list ≡ list
-    read = get_or_from_slice_get (lists ++ last ∷ []) block list list there
-
-    inside : block < length lists + 1
-    inside = subst (λ (n : ℕ). block < n) (length_push lists last) (slice_get_within (lists ++ last ∷ []) block list there)
-
-    go : (block < length lists) ⊎ (length lists ≤ block) → list.items ≡ []
-    go (inl lt) = old block list (slice_get-get_or lists block list lt ∙ ap Some (sym (get_or_append_left lists (last ∷ []) list block lt) ∙ read))
-    go (inr le) =
-        let within : block < length lists + 1 = inside in
-        let at : length lists ≡ block = omega arith in
-        ap (λ (v : Vec ℕ Global). v.items) (sym read ∙ get_or_push lists last list block at) ∙ new

@@ -30,9 +30,6 @@ module _ (ops : List FlatOp) where
     abbrev pub ConflictTo : ℕ → ℕ → ℕ → ℕ → Type 0
     ConflictTo from j u v = (at ≤ j) × IsConflict ops from j × (u ≡ from) × (v ≡ j)
 
-    pub none_before : (from j u v : ℕ) → j < at → ConflictTo from j u v → ⊥
-    none_before from j u v lt c = omega (arith, lt, c.0)
-
     module _ (from to : ℕ) (a b : FlatOp) (is_a : slice_get ops from ≡ Some a) (is_b : slice_get ops to ≡ Some b) where
       pub conflict_there : at ≤ to → AreConflicting a.kind b.kind → (u v : ℕ) → IsTheEdge from to u v ↔ ConflictTo from to u v
       conflict_there le c u v = ((λ e. (le, (conflicting from to a b is_a is_b).0 c, e.0, e.1)), (λ f. (f.2, f.3)))

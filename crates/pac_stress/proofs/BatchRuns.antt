@@ -87,8 +87,3 @@ batches-run count =
     both_run 0 (whole_batches 0 whole) (last_batch (whole * 64 + 1) left)
     (subst (λ (n : ℕ). RunOn n (whole_batches 0 whole)) zero_is (whole_run 0 whole))
     (subst (λ (n : ℕ). RunOn n (last_batch (whole * 64 + 1) left)) next (last_runs (whole * 64) left))
-
--- a batch that is left over
-pub last-is : (first left : ℕ) → 1 ≤ left → last_batch first left ≡ stress_batch first left ∷ []
-last-is first zero some = let no : ⊥ = omega (arith, some) in absurd no
-last-is first (suc more) some = refl

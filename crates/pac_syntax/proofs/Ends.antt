@@ -673,11 +673,6 @@ finish_ends (SomeParams k) r e = (NoParam, [], refl, finish_ends (k []) r e)
 finish_ends (MoreTables i ts k) r e = (NoTable, [], refl, subst (λ (xs : List TableNode). Finishes (k xs) [] r) (sym (append-nil ts)) (finish_ends (k ts) r e))
 finish_ends (MoreProcs i ps k) r e = (NoProc, [], tt, refl, subst (λ (xs : List ProcNode). Finishes (k xs) [] r) (sym (append-nil ps)) (finish_ends (k ps) r e))
 
--- what runs from a state is what is to come there
-pub runs_finish : (ms : List Marked) (k : Steps) (r : Tree) → Runs k ms r → Finishes k ms r
-runs_finish [] k r h = finish_ends k r h
-runs_finish (m ∷ ms) k r h = subst (λ (role : Role). Finishes k (record { token = m.token; role = role } ∷ ms) r) h.2 (feeds k m.token h.0 h.1 ms r (runs_finish ms h.0.steps r h.3))
-
 -- what ends the reading from its start is a catalogue
 pub finishes_whole : (ms : List Marked) (r : Tree) → Finishes start ms r → Whole ms r
 finishes_whole ms r tables =

@@ -146,11 +146,6 @@ limit_expected : (kind : FaultKind) → IsLimit kind → kind ≡ Expected → �
 limit_expected kind (inl deep) e = not_deep (sym e ∙ deep)
 limit_expected kind (inr many) e = not_many (sym e ∙ many)
 
--- what is over a limit comes after what can't follow
-limit_rank : (kind : FaultKind) → IsLimit kind → rank Expected ≤ rank kind
-limit_rank kind (inl deep) = rw deep (omega arith)
-limit_rank kind (inr many) = rw many (omega arith)
-
 -- a stop before any token was taken
 at_once : (end : ℕ) (k : Steps) (ts : List Spanned) → StopsAt end k ts (unexpected end ts)
 at_once end k ts = record { marks = []; parts = refl; goes_on = can_end k; reason = inl refl }
@@ -366,10 +361,6 @@ over_viable p t r fault h =
 pub not_both : (p rest : List Spanned) (fault : Fault) → IsOverAt p rest fault → IsUnexpected p rest → ⊥
 not_both p [] fault h f = absurd h
 not_both p (t ∷ r) fault h f = f.1 (over_viable p t r fault h)
-
-over_at-limit : (p rest : List Spanned) (fault : Fault) → IsOverAt p rest fault → IsLimit fault.kind
-over_at-limit p [] fault h = absurd h
-over_at-limit p (t ∷ r) fault h = over_limit h.2 t.at fault h.6
 
 le_refl : (n : ℕ) → n ≤ n
 le_refl n = omega arith

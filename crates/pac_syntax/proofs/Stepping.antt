@@ -51,12 +51,6 @@ gives_along after (Err e) a b p h = fails_along e a b p h
 same_end : (end end' : ℕ) (k : Steps) (s : List Spanned) {r : Read} → end' ≡ end → r ≡ run end k s → r ≡ run end' k s
 same_end end end' k s e h = h ∙ ap (λ x. run x k s) (sym e)
 
--- what a function made is what is handed on
-pub gives_made : {X Y : Type 0} (view : X → Begun) (after : Begun → Result Y Fault) (r : Result X (Refusal Fault)) (made : Begun) (a : Result Y Fault) → OkUnlessMemory r (λ x. view x ≡ made) → a ≡ after made → Gives (λ x. after (view x)) r a
-gives_made view after (Ok x) made a is h = h ∙ ap after (sym is)
-gives_made view after (Err error.NoMemory) made a is h = tt
-gives_made view after (Err (error.Fault f)) made a is h = absurd cc
-
 one_more : (n : ℕ) → n + 1 ≡ suc n
 one_more n = omega arith
 

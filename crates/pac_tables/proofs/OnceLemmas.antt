@@ -16,6 +16,3 @@ once : (ws : List Write) → IsDistinct (eq_by_cmp cell_cmp) (map cell_written w
 unfolding IsDistinct
 once [] apart = tt
 once (w ∷ ws) apart = (unwritten (cell_written w) ws apart.0, once ws apart.1)
-
-pub IsOnce-from_sorted : (ws : List Write) → IsStrictlySortedBy cell_cmp (map cell_written ws) → IsOnce ws
-IsOnce-from_sorted ws sorted = once ws (IsDistinct-from_sorted cell_cmp (map cell_written ws) sorted)

@@ -32,18 +32,6 @@ Grows-insert w t v = record {
     kept c true h = refl
     kept c false h = h
 
--- none of the writes is made at the cell, and so not the one at an index
-any-at : (c : Cell) (ws : List Write) (i : ℕ) (w : Write) → i < length ws → w ≡ get_or ws i w → is_written ws c ≡ false → eq_by_cmp cell_cmp c (cell_written w) ≡ false
-any-at c [] i w within is none = absurd (omega (arith, within))
-any-at c (v ∷ ws) zero w within is none = ap (λ x. eq_by_cmp cell_cmp c (cell_written x)) is ∙ either _ _ none
-any-at c (v ∷ ws) (suc i) w within is none = any-at c ws i w (omega (arith, within)) is (rest _ _ none)
-
-pub Grows-more : (ws : List Write) (i : ℕ) (w : Write) (s t u : Tables) → i < length ws → w ≡ get_or ws i w → Grows ws s t → Grows (w ∷ []) t u → Grows ws s u
-Grows-more ws i w s t u within is before now = record {
-  kept = λ c h. now.kept c (before.kept c h);
-  others = λ c h. now.others c (ap (λ b. b || false) (any-at c ws i w within is h)) ∙ before.others c h;
-}
-
 -- the row that is put, or the tables as they were
 module _ (w : Write) (v : RowValues) (t n : Tables) (absent : get t (cell_written w) ≡ None) where
   pub offset-put : (r : Result (Unit {0}) NoMemory) → OnOk r (n ≡ insert t (cell_written w) v) → OnOk r (HasRow n w)

@@ -128,19 +128,12 @@ quoted_once x y p q e =
 
 -- ---- one byte at a time
 
-pub escape_next : (e : Bool) (b : ℕ) (bs : List ℕ) → (not e && nat_eq b 92) ≡ true → unescaped e (b ∷ bs) ≡ unescaped true bs
-escape_next true b bs h = absurd cc
-escape_next false b bs h = rw h refl
-
 pub plain_next : (e : Bool) (b : ℕ) (bs : List ℕ) → (not e && nat_eq b 92) ≡ false → unescaped e (b ∷ bs) ≡ b ∷ unescaped false bs
 plain_next true b bs h = refl
 plain_next false b bs h = rw h refl
 
 pub plain_step : (e : Bool) (i : ℕ) (bytes : List ℕ) → i < length bytes → (not e && nat_eq (get_or bytes i 0) 92) ≡ false → unescaped e (drop i bytes) ≡ get_or bytes i 0 ∷ unescaped false (drop (i + 1) bytes)
 plain_step e i bytes lt h = ap (unescaped e) (drop_more bytes i 0 lt) ∙ plain_next e (get_or bytes i 0) (drop (i + 1) bytes) h
-
-pub escape_step : (e : Bool) (i : ℕ) (bytes : List ℕ) → i < length bytes → (not e && nat_eq (get_or bytes i 0) 92) ≡ true → unescaped e (drop i bytes) ≡ unescaped true (drop (i + 1) bytes)
-escape_step e i bytes lt h = ap (unescaped e) (drop_more bytes i 0 lt) ∙ escape_next e (get_or bytes i 0) (drop (i + 1) bytes) h
 
 -- bytes without a `\` are a text without escapes
 pub without_escape : (bs : List ℕ) → list_any (λ b. nat_eq b 92) bs ≡ false → unescaped false bs ≡ bs

@@ -14,14 +14,6 @@ use Rattle.pac_types.specs.WellFormed.{key_type, column_types, column_types_of}
 use Rattle.pac_types.specs.Fits.{shape}
 
 module _ (tables : List Table) where
-  -- a key of its table's type
-  pub key-fits : (t : ℕ) (key : Key) → key_type tables t ≡ Some (type_of (key_value key)) → IsSomeAnd (slice_get (map shape tables) t) (KeyFits key)
-  key-fits t key typed = subst (λ (o : Option TableTypes). IsSomeAnd o (KeyFits key)) (sym (slice_get-map shape tables t)) (go (slice_get tables t) typed)
-    where
-      go : (o : Option Table) → option_map (λ table. table.key) o ≡ Some (type_of (key_value key)) → IsSomeAnd (option_map shape o) (KeyFits key)
-      go None h = cc
-      go (Some table) h = cc
-
   -- a row whose key and columns have its table's types
   pub row-fits : (cell : Cell) (row : RowValues) → key_type tables cell.0 ≡ Some (type_of (key_value cell.1)) → map type_of row ≡ column_types tables cell.0 → RowFits (map shape tables) cell row
   row-fits cell row typed columns = subst (λ (o : Option TableTypes). IsSomeAnd o Fits) (sym (slice_get-map shape tables cell.0)) (go (slice_get tables cell.0) typed columns)
@@ -50,19 +42,3 @@ module _ (tables : List Table) where
         go : (o : Option Table) → IsSomeAnd (option_map shape o) (λ table. KeyFits cell.1 table × ColumnsFit row table) → map type_of row ≡ column_types_of o
         go None h = absurd h
         go (Some table) h = h.1
-
-  -- a key that fits is of one of the tables
-  pub within-fits : (t : ℕ) (key : Key) → IsSomeAnd (slice_get (map shape tables) t) (KeyFits key) → t < length tables
-  within-fits t key fits = go (slice_get tables t) refl (subst (λ (o : Option TableTypes). IsSomeAnd o (KeyFits key)) (slice_get-map shape tables t) fits)
-    where
-      go : (o : Option Table) → slice_get tables t ≡ o → IsSomeAnd (option_map shape o) (KeyFits key) → t < length tables
-      go None e h = absurd h
-      go (Some table) e h = slice_get_within tables t table e
-
-  -- a table whose keys have a type is one of them
-  pub within-typed : (t : ℕ) (ty : Ty) → key_type tables t ≡ Some ty → t < length tables
-  within-typed t ty typed = go (slice_get tables t) refl typed
-    where
-      go : (o : Option Table) → slice_get tables t ≡ o → option_map (λ table. table.key) o ≡ Some ty → t < length tables
-      go None e h = absurd cc
-      go (Some table) e h = slice_get_within tables t table e

@@ -9,25 +9,14 @@ natural-suc (pos zero) h = let no_way : ⊥ = omega (arith, ints, h) in absurd n
 natural-suc (pos (suc n)) h = let less : pos (suc n) -ℤ pos 1 ≡ pos n = omega (arith, ints) in ap suc (ap natural (sym less))
 natural-suc (negsuc n) h = let no_way : ⊥ = omega (arith, ints, h) in absurd no_way
 
-natural-none : (z : ℤ) → z ≤ℤ pos 0 → natural z ≡ 0
-natural-none (pos zero) h = refl
-natural-none (pos (suc n)) h = let no_way : ⊥ = omega (arith, ints, h) in absurd no_way
-natural-none (negsuc n) h = refl
-
 pub turns-more : (from to : ℤ) → from <ℤ to → turns from to ≡ suc (turns (from +ℤ pos 1) to)
 turns-more from to h =
     let some : pos 0 <ℤ (to -ℤ from) = omega (arith, ints, h) in
     let less : (to -ℤ from) -ℤ pos 1 ≡ to -ℤ (from +ℤ pos 1) = omega (arith, ints) in
     natural-suc (to -ℤ from) some ∙ ap (λ z. suc (natural z)) less
 
-pub turns-none : (from to : ℤ) → to ≤ℤ from → turns from to ≡ 0
-turns-none from to h = let none : (to -ℤ from) ≤ℤ pos 0 = omega (arith, ints, h) in natural-none (to -ℤ from) none
-
 pub numbers-more : (from to : ℤ) → from <ℤ to → turn_numbers from to ≡ from ∷ turn_numbers (from +ℤ pos 1) to
 numbers-more from to h = ap (ascending from) (turns-more from to h)
-
-pub numbers-none : (from to : ℤ) → to ≤ℤ from → turn_numbers from to ≡ []
-numbers-none from to h = ap (ascending from) (turns-none from to h)
 
 -- a number that is none below zero
 pub natural-pos : (z : ℤ) → pos 0 ≤ℤ z → pos (natural z) ≡ z
@@ -51,6 +40,3 @@ before-next from n low =
     let some : pos 0 <ℤ ((n +ℤ pos 1) -ℤ from) = omega (arith, ints, low) in
     let less : ((n +ℤ pos 1) -ℤ from) -ℤ pos 1 ≡ n -ℤ from = omega (arith, ints) in
     natural-suc ((n +ℤ pos 1) -ℤ from) some ∙ ap (λ z. suc (natural z)) less
-
-pub before-none : (from : ℤ) → natural (from -ℤ from) ≡ 0
-before-none from = let none : from -ℤ from ≡ pos 0 = omega (arith, ints) in ap natural none

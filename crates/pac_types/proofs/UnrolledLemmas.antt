@@ -74,9 +74,6 @@ counted-loop : (s : Stmt) (x : ℕ) (from to : ℤ) (body : List Stmt) → IsLoo
 counted-loop s x from to body is all = subst (λ (q : Unrolling × ℕ). Counted q.0 q.1) (λ i. (sym (is Unrolling unroll_step) i, sym (is ℕ count_step) i))
     (λ p rest. counted_turns x body all (turn_numbers from to) p rest ∙ ap (λ n. n * operations body + step_count rest) (length-ascending (turns from to) from))
 
-pub steps-count : (s : Stmt) (p : Point) (rest : UnrolledSteps) → step_count ((unrolling s).steps p rest) ≡ stmt_operations s + step_count rest
-steps-count = by_shape CountedStmt counted-one counted-conditional counted-loop
-
 pub all_steps-count : (ss : List Stmt) (p : Point) (rest : UnrolledSteps) → step_count (in_steps (map unrolling ss) p rest) ≡ operations ss + step_count rest
 all_steps-count ss = counted_all ss (all_by_shape CountedStmt counted-one counted-conditional counted-loop ss)
 

@@ -157,9 +157,6 @@ unknown (Some n) at = []
 abbrev pub key_wanted : List Table → Option ℕ → Option Ty
 key_wanted tables table = option_and_then (λ t. key_type tables t) table
 
-abbrev pub column_numbered : List Table → Option ℕ → List ℕ → Option ℕ
-column_numbered tables table name = option_and_then (λ t. column_number tables t name) table
-
 abbrev pub column_wanted : List Table → Option ℕ → List ℕ → Option Ty
 column_wanted tables table name = option_and_then (λ t. option_and_then (λ c. column_type tables t c) (column_number tables t name)) table
 

@@ -17,9 +17,6 @@ use Rattle.pac_tables.specs.Written.{cell_written, is_written, written}
 use Rattle.pac_tables.proofs.WriteLemmas.{written-last}
 use Rattle.pac_undo.specs.Images.{as_writes, before_image_at}
 
-Image : Type 0
-Image = Cell × Option RowValues
-
 -- cells as `==` tells them apart
 abbrev pub cell_eq : Cell → Cell → Bool
 cell_eq a b = nat_eq a.0 b.0 && (ghosts).eq a.1 b.1
@@ -89,12 +86,3 @@ written-last_cell (v ∷ ws) w = later (eq_by_cmp cell_cmp (cell_written w) (cel
     later : (b : Bool) → is_written (ws ++ w ∷ []) (cell_written w) ≡ true → (b || is_written (ws ++ w ∷ []) (cell_written w)) ≡ true
     later true h = refl
     later false h = h
-
--- and so has each cell that had one
-pub written-more : (ws : List Write) (w : Write) (q : Cell) → is_written ws q ≡ true → is_written (ws ++ w ∷ []) q ≡ true
-written-more [] w q h = absurd cc
-written-more (v ∷ ws) w q h = later (eq_by_cmp cell_cmp q (cell_written v)) (written-more ws w q) h
-  where
-    later : (b : Bool) → (is_written ws q ≡ true → is_written (ws ++ w ∷ []) q ≡ true) → (b || is_written ws q) ≡ true → (b || is_written (ws ++ w ∷ []) q) ≡ true
-    later true f h = refl
-    later false f h = f h

@@ -12,7 +12,7 @@ use Rattle.pac_tables.specs.declared.writes.Write.{Write}
 use Rattle.pac_tables.specs.Written.{AreWithin, cell_written, is_written, written}
 use Rattle.pac_undo.specs.Images.{AreKept, HaveBeforeImages, before_image_at}
 use Rattle.pac_undo.specs.Undo.{Undoable}
-use Rattle.pac_undo.proofs.ImageLemmas.{get-written, noted-same, written-image, written-last_cell, written-more}
+use Rattle.pac_undo.proofs.ImageLemmas.{get-written, noted-same, written-image, written-last_cell}
 
 pub map-some : {A B : Type 0} (f : A → B) (o : Option A) → is_some (option_map f o) ≡ is_some o
 map-some f None = refl
@@ -35,10 +35,6 @@ module _ (t : Tables) (ws vs : List Write) (w : Write) where
   pub noted-cell : (r : Result (Unit {0}) NoMemory) → OnOk r (vs ≡ ws ++ w ∷ []) → OnOk r (is_written vs (cell_written w) ≡ true)
   noted-cell (Ok x) is = ap (λ us. is_written us (cell_written w)) is ∙ written-last_cell ws w
   noted-cell (Err e) is = tt
-
-  pub noted-kept : (r : Result (Unit {0}) NoMemory) → OnOk r (vs ≡ ws ++ w ∷ []) → OnErr r (vs ≡ ws) → AreKept ws vs
-  noted-kept (Ok x) is kept = λ q h. ap (λ us. is_written us q) is ∙ written-more ws w q h
-  noted-kept (Err e) is kept = λ q h. ap (λ us. is_written us q) kept ∙ h
 
 -- what holds of the cell of each write holds of each cell that is written
 at-cell : (P : Cell → Type 0) (ws : List Write) (q : Cell) → AllByRecursion (λ w. P (cell_written w)) ws → is_written ws q ≡ true → P q

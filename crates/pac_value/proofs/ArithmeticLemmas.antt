@@ -28,60 +28,6 @@ joined_int Ge a right = refl
 joined_int And a right = refl
 joined_int Or a right = refl
 
-never_equality : (a b : Ty) → equality_type a b ≡ Some IntTy → ⊥
-never_equality IntTy IntTy e = cc
-never_equality IntTy TextTy e = cc
-never_equality IntTy BoolTy e = cc
-never_equality TextTy IntTy e = cc
-never_equality TextTy TextTy e = cc
-never_equality TextTy BoolTy e = cc
-never_equality BoolTy IntTy e = cc
-never_equality BoolTy TextTy e = cc
-never_equality BoolTy BoolTy e = cc
-
-never_order : (a b : Ty) → order_type a b ≡ Some IntTy → ⊥
-never_order IntTy IntTy e = cc
-never_order IntTy TextTy e = cc
-never_order IntTy BoolTy e = cc
-never_order TextTy IntTy e = cc
-never_order TextTy TextTy e = cc
-never_order TextTy BoolTy e = cc
-never_order BoolTy IntTy e = cc
-never_order BoolTy TextTy e = cc
-never_order BoolTy BoolTy e = cc
-
-never_logic : (a b : Ty) → logic_type a b ≡ Some IntTy → ⊥
-never_logic IntTy IntTy e = cc
-never_logic IntTy TextTy e = cc
-never_logic IntTy BoolTy e = cc
-never_logic TextTy IntTy e = cc
-never_logic TextTy TextTy e = cc
-never_logic TextTy BoolTy e = cc
-never_logic BoolTy IntTy e = cc
-never_logic BoolTy TextTy e = cc
-never_logic BoolTy BoolTy e = cc
-
--- only arithmetic gives an int
-gives_int : (op : BinOp) (a b : Ty) → operator_type op a b ≡ Some IntTy → is_arithmetic op ≡ true
-gives_int Add a b e = refl
-gives_int Sub a b e = refl
-gives_int Mul a b e = refl
-gives_int Div a b e = refl
-gives_int Rem a b e = refl
-gives_int Eq a b e = absurd (never_equality a b e)
-gives_int Ne a b e = absurd (never_equality a b e)
-gives_int Lt a b e = absurd (never_order a b e)
-gives_int Le a b e = absurd (never_order a b e)
-gives_int Gt a b e = absurd (never_order a b e)
-gives_int Ge a b e = absurd (never_order a b e)
-gives_int And a b e = absurd (never_logic a b e)
-gives_int Or a b e = absurd (never_logic a b e)
-
-pub arithmetic_from_type : (op : BinOp) (a b : Option Ty) → option_and_then (λ x. option_and_then (λ y. operator_type op x y) b) a ≡ Some IntTy → is_arithmetic op ≡ true
-arithmetic_from_type op None b e = absurd (cc)
-arithmetic_from_type op (Some x) None e = absurd (cc)
-arithmetic_from_type op (Some x) (Some y) e = gives_int op x y e
-
 -- arithmetic gives an int, where it gives anything
 pub int_given : (a b : Ty) → IsSome (arithmetic_type a b) → arithmetic_type a b ≡ Some IntTy
 int_given IntTy IntTy e = refl
@@ -119,9 +65,6 @@ module _ (op : BinOp) (l r : Expr) where
       ∙ ap (λ (x : Result Value Trap). x >>= λ a. joined op a (value r env)) (sym left)
       ∙ joined_int op first (value r env)
       ∙ ap (λ (x : Result Value Trap). x >>= λ b. applied op (Int first) b) (sym right)
-
-  pub is_arithmetic_type : (types : ℕ → Option Ty) → type_in types (Bin op l r) ≡ Some IntTy → is_arithmetic op ≡ true
-  is_arithmetic_type types e = arithmetic_from_type op (type_in types l) (type_in types r) (sym (fold-Bin (Option Ty) (type_step types) op l r) ∙ e)
 
   pub type_is_int : (types : ℕ → Option Ty) → is_arithmetic op ≡ true → IsSome (type_in types (Bin op l r)) → type_in types (Bin op l r) ≡ Some IntTy
   type_is_int types is some =

@@ -21,6 +21,3 @@ copied-is_padded n bytes copy zeros short same none =
 
 pub length-prefix : (n : ℕ) (bytes : List ℕ) (len : ℕ) → IsPadded n bytes len → length (take len bytes) ≡ len
 length-prefix n bytes len is = let short : len ≤ length bytes = omega arith in length-take-le len bytes short
-
-pub copied-prefix : (bytes copy rest : List ℕ) → copy ≡ bytes → take (length bytes) (copy ++ rest) ≡ bytes
-copied-prefix bytes copy rest same = take_at copy rest (length bytes) (ap length same) ∙ same

@@ -9,7 +9,7 @@ use Rattle.atomic_table.specs.Seated.{TableId}
 use Rattle.atomic_table.specs.declared.shared.Seat.{Seat}
 use Rattle.pac_workers.specs.Fed.{AreAlikeIn, IsLoadedSoFar}
 use Rattle.pac_workers.specs.Shown.{IsFed, Tells, TellsMore, with_each}
-use Rattle.pac_workers.proofs.Showing.{same_told, with_more}
+use Rattle.pac_workers.proofs.Showing.{same_told}
 
 module _ {F M : Type 0} (gives : F → List Batch → F → Type 0) (feed_next : F → ℕ) (feed_params : F → List (List Ty)) (feed_tables : F → List TableTypes)
     (job : M → M) (is_closed : M → Bool) (with_batch : M → Batch → M) (next_txn : M → ℕ) (params : M → List (List Ty)) (tables : M → List TableTypes) (id : TableId) where
@@ -30,39 +30,6 @@ module _ {F M : Type 0} (gives : F → List Batch → F → Type 0) (feed_next :
     -- what was given so far, and with one batch more
     pub gave : (new : F) → ((from : F) (batches : List Batch) → gives from batches now → gives from batches new) → (batches : List Batch) × gives old batches new
     gave new given = (far.batches, given old far.batches far.given)
-
-    pub gave_more : (batch : Batch) (new : F) → ((from : F) (batches : List Batch) → gives from batches now → gives from (batches ++ batch ∷ []) new) → (batches : List Batch) × gives old batches new
-    gave_more batch new given = (far.batches ++ batch ∷ [], given old far.batches far.given)
-
-    -- the next batch may be loaded
-    pub may_load : (batch : Batch) → batch.first ≡ feed_next now → AllByRecursion (TxnFitsTypes (feed_params now) (feed_tables now)) batch.txns
-        → (all : M) × Tells job is_closed id all false twin × (batch.first ≡ next_txn all) × AllByRecursion (TxnFitsTypes (params all) (tables all)) batch.txns
-    may_load batch first fits = (
-      all_now,
-      far.tells,
-      first ∙ far.same.next_is,
-      subst (λ (t : List (List Ty) × List TableTypes). AllByRecursion (TxnFitsTypes t.0 t.1) batch.txns) (λ i. (far.same.params_are i, far.same.tables_are i)) fits,
-    )
-
-    -- and then it is loaded
-    pub goes_on : (batch : Batch) (new : F) (next : Seat M (List M)) → ((from : F) (batches : List Batch) → gives from batches now → gives from (batches ++ batch ∷ []) new)
-        → feed_next new ≡ batch.first + length batch.txns → feed_params new ≡ feed_params now → feed_tables new ≡ feed_tables now
-        → ((all : M) → Tells job is_closed id all false twin → TellsMore job is_closed with_batch next_txn params tables id all batch next) → SoFar old new before next
-    goes_on batch new next given next_is same_params same_tables told =
-        let more = told all_now far.tells in
-        let e : with_each with_batch far.all (far.batches ++ batch ∷ []) ≡ with_batch all_now batch = with_more with_batch far.all far.batches batch in
-        record {
-          all = far.all;
-          told = far.told;
-          batches = far.batches ++ batch ∷ [];
-          given = given old far.batches far.given;
-          tells = subst (λ (a : M). Tells job is_closed id a false next) (sym e) more.tells;
-          same = subst (Alike new) (sym e) (record {
-            next_is = next_is ∙ sym more.next_is;
-            params_are = same_params ∙ far.same.params_are ∙ sym more.params_are;
-            tables_are = same_tables ∙ far.same.tables_are ∙ sym more.tables_are;
-          });
-        }
 
     pub ends : (new : F) (last : Seat M (List M)) → ((from : F) (batches : List Batch) → gives from batches now → gives from batches new)
         → ((all : M) → Tells job is_closed id all false twin → Tells job is_closed id all true last)

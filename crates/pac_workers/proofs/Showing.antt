@@ -39,10 +39,6 @@ module _ {M : Type 0} (job : M → M) (is_closed : M → Bool) where
       let m : t.machine ≡ u.machine = λ i. first_or t.machine (e i).0 in
       (sym t.job_is ∙ ap job m ∙ u.job_is, sym t.closed_is ∙ ap is_closed m ∙ u.closed_is)
 
--- of one job, whether it is told that it is closed or not
-pub job_told : {M : Type 0} (job : M → M) (is_closed : M → Bool) (id : TableId) (all : M) (closed : Bool) (twin : Seat M (List M)) → Tells job is_closed id all closed twin → TellsJob job id all twin
-job_told job is_closed id all closed twin t = record { of = t.of; machine = t.machine; shows = t.shows; job_is = t.job_is }
-
 abbrev first_of : {M : Type 0} → M → List M → M
 first_of d [] = d
 first_of d (m ∷ ms) = m
@@ -51,8 +47,3 @@ pub same_job : {M : Type 0} (job : M → M) (one other : TableId) (a b : M) (twi
 same_job job one other a b twin mate same t u =
     let e : (t.machine ∷ [], []) ≡ (u.machine ∷ [], []) = sym t.shows ∙ same ∙ u.shows in
     sym t.job_is ∙ (λ i. job (first_of t.machine (e i).0)) ∙ u.job_is
-
--- one batch more comes last
-pub with_more : {M : Type 0} (with_batch : M → Batch → M) (all : M) (batches : List Batch) (batch : Batch) → with_each with_batch all (batches ++ batch ∷ []) ≡ with_batch (with_each with_batch all batches) batch
-with_more with_batch all [] batch = refl
-with_more with_batch all (b ∷ bs) batch = with_more with_batch (with_batch all b) bs batch
