@@ -7,10 +7,6 @@ use Rattle.pac_base.proofs.TestLemmas.{or_left, or_right, or_cases, not_false}
 use Rattle.pac_batch.specs.declared.queues.Queued.{Queued}
 use Rattle.pac_batch.specs.Queues.{entry, AreInOrder, AreJoined, AreJoinedAt, IsStart, IsPairOf, IsPairSince}
 
--- below, or at
-split_next : (m n : ℕ) → m < n + 1 → (m < n) ⊎ (m ≡ n)
-split_next m n lt = elim (cases_lt m n) [ inl below ↦ inl below | inr le ↦ inr (omega (arith, lt, le)) ]
-
 module _ (queued : List Queued) (order : AreInOrder queued) (start end : ℕ) (at : IsStart queued start end) (inside : end < length queued) where
   abbrev row : ℕ → Option Cell
   row p = (entry queued p).row
@@ -52,14 +48,6 @@ module _ (queued : List Queued) (order : AreInOrder queued) (start end : ℕ) (a
     of_queue p le lt = at.same p le lt ∙ same
 
     module _ (writes : (entry queued end).is_write ≡ true) where
-      pub write_start : IsStart queued end (end + 1)
-      write_start = record {
-        within = omega arith;
-        same = λ m le lt. let e : m ≡ end = omega (arith, le, lt) in ap row e;
-        reads = λ m le lt. absurd (omega (arith, le, lt));
-        first = inl (omega arith, writes);
-      }
-
       pub write_next : (i j : ℕ) → IsPairSince queued start end end i j → AreJoinedAt queued end i j
       write_next i j (p, le, lt, (earlier, e, f)) = (
         p,
@@ -89,14 +77,6 @@ module _ (queued : List Queued) (order : AreInOrder queued) (start end : ℕ) (a
             | inr ne ↦ absurd (let le = from_start p next in not_false _ (at.reads p (omega (arith, le, ne)) next.before) w)
           ]
 
-      pub read_start : IsStart queued start (end + 1)
-      read_start = record {
-        within = let le = at.within in omega (arith, le);
-        same = λ m le lt. elim (split_next m end lt) [ inl below ↦ at.same m le below | inr e ↦ ap row e ∙ sym same ];
-        reads = λ m above lt. elim (split_next m end lt) [ inl below ↦ at.reads m above below | inr e ↦ ap (λ k. (entry queued k).is_write) e ∙ reads ];
-        first = elim at.first [ inl writer ↦ inl (let lt = writer.0 in omega (arith, lt), writer.1) | inr none ↦ inr none ];
-      }
-
       pub read_next : (entry queued start).is_write ≡ true → (i j : ℕ) → IsPairOf (entry queued start) (entry queued end) i j → AreJoinedAt queued end i j
       read_next w i j (earlier, e, f) = (
         start,
@@ -119,8 +99,3 @@ module _ (queued : List Queued) (order : AreInOrder queued) (start end : ℕ) (a
           let is : p ≡ start = (writer p next).0 in
           let alike : (entry queued p).index ≡ (entry queued start).index = ap (λ k. (entry queued k).index) is in
           (subst (λ k. k < (entry queued end).index) alike next.earlier, sym alike ∙ e, f)
-
-      pub read_none : (entry queued start).is_write ≡ false → (i j : ℕ) → AreJoinedAt queued end i j → ⊥
-      read_none none i j (p, next, e, f) =
-          let w = writer p next in
-          not_false _ none (ap (λ k. (entry queued k).is_write) (sym w.0) ∙ w.1)

@@ -1,6 +1,6 @@
 -- What stands in the queues of accesses, however they are arranged: each access in its queues, and nothing else.
-use Rattle.std.proofs.Common.{◌≡◌, ℕ, zero, suc, ◌+◌, ◌<◌, Bool, true, false, ◌&&◌, ◌||◌, List, [], ◌∷◌, map, length, get_or, Option, Some, None, refl, sym, ap, ◌∙◌, subst, true≢false, ◌⊎◌, inl, inr, ⊎_elim, arith, IsPermutation}
-use Rattle.std.specs.Prelude.{Contains}
+use Rattle.std.proofs.Common.{◌≡◌, ℕ, zero, suc, ◌+◌, ◌<◌, Bool, true, false, ◌&&◌, List, [], ◌∷◌, map, length, get_or, Option, Some, None, refl, sym, ap, ◌∙◌, subst, true≢false, ◌⊎◌, inl, inr, ⊎_elim, arith, IsPermutation}
+use Rattle.std.specs.Prelude.{if◌then◌else◌, Contains}
 use Rattle.std.specs.Ordering.{eq_by_cmp}
 use Rattle.std.proofs.lemmas.List.{get_or_default}
 use Rattle.std.proofs.lemmas.List.Elements.{Contains-get_or, Contains-append_left, Contains-append_right, Contains-append_cases}
@@ -16,7 +16,7 @@ use Rattle.pac_plan.specs.Pieces.{named_cell}
 use Rattle.pac_plan.specs.NextPairs.{is_whole}
 use Rattle.pac_batch.specs.declared.queues.Queued.{Queued}
 use Rattle.pac_batch.specs.Conflicts.{access_in}
-use Rattle.pac_batch.specs.Queues.{queued_touch, queued_block, queued_touches, block_from, block_queue, rows_from, any_whole, queued_all, stands_in, writes_in, entry}
+use Rattle.pac_batch.specs.Queues.{queued_touch, queued_block, queued_touches, block_from, rows_from, any_whole, queued_all, stands_in, writes_in, entry}
 
 -- ---- lists
 
@@ -148,9 +148,9 @@ of_rows accesses e h =
     (subst (λ k. k < length accesses) index at.1, subst (λ k. Says k (access_in accesses k) e) index (let f = say.0 in omega (arith, f), say.1, say.2))
 
 of_all : (accesses : List Access) (e : Queued) → Contains (queued_all accesses) e → Stands accesses e
-of_all accesses e h = ⊎_elim (of_queue (any_whole accesses)) (of_rows accesses e) (Contains-append_cases (block_queue (any_whole accesses) accesses) (rows_from 0 accesses) e h)
+of_all accesses e h = ⊎_elim (of_queue (any_whole accesses)) (of_rows accesses e) (Contains-append_cases (if any_whole accesses then block_from 0 accesses else []) (rows_from 0 accesses) e h)
   where
-    of_queue : (b : Bool) → Contains (block_queue b accesses) e → Stands accesses e
+    of_queue : (b : Bool) → Contains (if b then block_from 0 accesses else []) e → Stands accesses e
     of_queue true here = of_block accesses e here
     of_queue false here = absurd (none e here)
 
@@ -177,14 +177,14 @@ module _ (accesses : List Access) (queued : List Queued) (moved : IsPermutation 
   in_block : (i : ℕ) → i < length accesses → any_whole accesses ≡ true → Contains (queued_all accesses) (queued_block i (is_whole (access_in accesses i)))
   in_block i inside whole =
       let same : 0 + i ≡ i = omega arith in
-      Contains-append_left (block_queue (any_whole accesses) accesses) (rows_from 0 accesses) (queued_block i (is_whole (access_in accesses i)))
-      (subst (λ b. Contains (block_queue b accesses) (queued_block i (is_whole (access_in accesses i)))) (sym whole)
+      Contains-append_left (if any_whole accesses then block_from 0 accesses else []) (rows_from 0 accesses) (queued_block i (is_whole (access_in accesses i)))
+      (subst (λ b. Contains (if b then block_from 0 accesses else []) (queued_block i (is_whole (access_in accesses i)))) (sym whole)
       (subst (λ n. Contains (block_from 0 accesses) (queued_block n (is_whole (access_in accesses i)))) same (to_block 0 accesses i inside)))
 
   in_rows : (i : ℕ) (e : Queued) → i < length accesses → Contains (queued_touches i (access_in accesses i)) e → Contains (queued_all accesses) e
   in_rows i e inside h =
       let same : i ≡ 0 + i = omega arith in
-      Contains-append_right (block_queue (any_whole accesses) accesses) (rows_from 0 accesses) e (to_rows 0 accesses e i inside (subst (λ n. Contains (queued_touches n (access_in accesses i)) e) same h))
+      Contains-append_right (if any_whole accesses then block_from 0 accesses else []) (rows_from 0 accesses) e (to_rows 0 accesses e i inside (subst (λ n. Contains (queued_touches n (access_in accesses i)) e) same h))
 
   -- an access stands in each of its queues in which one modifies
   pub placed : (i : ℕ) (r : Option Cell) → i < length accesses → stands_in (access_in accesses i) r ≡ true → (k : ℕ) → k < length accesses → writes_in (access_in accesses k) r ≡ true

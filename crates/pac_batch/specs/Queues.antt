@@ -1,6 +1,7 @@
 -- Queues of accesses: one of each row, in which stand the accesses that touch it, and one of the block, in which all stand where one of them
 -- is of the whole block.
-use Rattle.std.specs.Prelude.{◌≡◌, ◌⊎◌, ℕ, ◌+◌, ◌<◌, ◌≤◌, Bool, true, false, ◌||◌, List, [], ◌∷◌, ◌++◌, map, length, slice_index_or, Option, Some, None, Contains}
+use Rattle.std.specs.Prelude.{◌≡◌, ◌⊎◌, ℕ, ◌+◌, ◌<◌, ◌≤◌, Bool, true, false, ◌||◌, if◌then◌else◌, List, [], ◌∷◌, ◌++◌, map, length, slice_index_or, Option, Some, None, Contains}
+use Rattle.std.specs.List.{list_any}
 use Rattle.pac_value.specs.State.{Cell}
 use Rattle.pac_plan.specs.declared.access.Touch.{Touch}
 use Rattle.pac_plan.specs.declared.access.Access.{Access}
@@ -36,17 +37,11 @@ rows_from i (x ∷ xs) = queued_touches i x ++ rows_from (i + 1) xs
 
 -- whether one of them is of the whole block
 abbrev pub any_whole : List Access → Bool
-any_whole [] = false
-any_whole (x ∷ xs) = is_whole x || any_whole xs
+any_whole accesses = list_any is_whole accesses
 
--- the queue of the block: where no access is of the whole block it joins none, and is left out
-abbrev pub block_queue : Bool → List Access → List Queued
-block_queue true accesses = block_from 0 accesses
-block_queue false accesses = []
-
--- accesses in their queues
+-- accesses in their queues: where none is of the whole block the queue of the block joins none, and is left out
 abbrev pub queued_all : List Access → List Queued
-queued_all accesses = block_queue (any_whole accesses) accesses ++ rows_from 0 accesses
+queued_all accesses = (if any_whole accesses then block_from 0 accesses else []) ++ rows_from 0 accesses
 
 -- the access stands in the queue of a row, or of the block
 abbrev pub stands_in : Access → Option Cell → Bool

@@ -37,12 +37,7 @@ pub(crate) fn in_queues(alloc: Global, accesses: &[Access]) -> Result<Vec<Queued
 fn any_whole(accesses: &[Access]) -> bool
     ensures { result ≡ any_whole accesses.now }
 {
-    for access in accesses {
-        if is_whole(access) {
-            return true;
-        }
-    }
-    false
+    accesses.iter().any(is_whole)
 }
 
 // Adds accesses in the queue of the block.

@@ -1,11 +1,11 @@
 -- The pairs that the queues join are the next pairs, each of an earlier and a later access.
-use Rattle.std.proofs.Common.{◌≡◌, ◌<◌, ◌+◌, ◌↔◌, ℕ, List, length, get_or, sym, ap, ◌∙◌, subst, arith}
+use Rattle.std.proofs.Common.{◌≡◌, ◌<◌, ◌↔◌, ℕ, List, length, get_or, sym, ap, ◌∙◌, subst, arith}
 use Rattle.std.specs.Prelude.{Contains}
 use Rattle.std.proofs.lemmas.List.Elements.{Contains-get_or}
 use Rattle.std.proofs.lemmas.List.Sorted.{length_permutation}
 use Rattle.pac_batch.specs.declared.queues.Queued.{Queued}
 use Rattle.pac_batch.specs.Queues.{AreJoinedBelow, queued_all}
-use Rattle.pac_batch.specs.NextLists.{AreNextPairs, count_touches}
+use Rattle.pac_batch.specs.NextLists.{AreNextPairs}
 use Rattle.pac_batch.proofs.NextQueued.{next_pairs}
 use Rattle.pac_batch.proofs.QueueCounts.{count_entries}
 use Rattle.pac_batch.proofs.next_pairs.queue_preds.Goals as goal
