@@ -24,8 +24,9 @@
 //!   `specs/Typing.antt` says which catalogue a tree has, by the numbers of `specs/Numbering.antt` and the types of
 //!   `specs/WellFormed.antt`. A tree has a catalogue exactly where it has no fault.
 //! - `specs/Unrolled.antt` says which steps statements are, by recursion on the tree: a loop is its block repeated for
-//!   each number, with operations and variables of its own. `specs/Meaning.antt` says what steps, and so procedures, do:
-//!   the serial meaning.
+//!   each number, with operations and variables of its own. Where there is no loop they are what is written
+//!   ([`procedures_without_loops_are_as_written`]). `specs/Meaning.antt` says what steps, and so procedures, do: the serial
+//!   meaning.
 //!   `specs/Execution.antt` says what transactions mean, one after another, and which table is over a limit;
 //!   `specs/Fits.antt` which rows and transactions fit a catalogue. Every execution is held to these.
 //! - `specs/OperationLimits.antt` says how many operations procedures may have; no call of this crate tests it.
@@ -38,6 +39,7 @@
 mod catalogue;
 mod checker;
 mod count;
+mod laws;
 mod names;
 mod procedure;
 mod statement;
@@ -48,6 +50,7 @@ mod type_error;
 pub use catalogue::Catalogue;
 pub use checker::check;
 pub use count::{MAX_COUNT, count_operations};
+pub use laws::procedures_without_loops_are_as_written;
 pub use procedure::Proc;
 pub use statement::{Exprs, Stmt, Stmts};
 pub use table::{Column, Columns, Table};
