@@ -26,12 +26,3 @@ few-run before [] runs small few = omega (arith, few)
 few-run before (batch ∷ batches) runs small few =
     let rest = few-run (before + length batch.txns) batches runs.1 small.1 (omega (arith, runs.0, small.0)) in
     omega (arith, rest, length-append batch.txns (txns_in batches))
-
--- an execution that stops means its abort, or found no memory
-pub stops-as : (meaning : Result Tables Note) (error : AllError) → ((note : Note) → error ≡ Abort note → meaning ≡ Err note) → DoesEnd (Err error) meaning
-stops-as meaning (Abort note) means = means note refl
-stops-as meaning NoMemory means = tt
-
--- what is to be answered is the answer
-pub ends-as : {T E : Type 0} (P : Result T E → Type 0) (r : Result T E) (error : E) → r ≡ Err error → P (Err error) → P r
-ends-as P r error is h = subst P (sym is) h

@@ -12,6 +12,8 @@ use Rattle.pac_outside.proofs.Runs.{three}
 use Rattle.pac_types.specs.Typing.{CatalogueState}
 use Rattle.pac_request.specs.declared.request.Request.{Request}
 use Rattle.pac_session.specs.Session.{Rules, SessionState}
+use Rattle.pac_recover.specs.declared.errors.LoadError.TheVariants as load
+use Rattle.pac_recover.specs.declared.errors.RecoverError.TheVariants as recover
 use Rattle.pac_run.specs.Asked.{TookAtMost}
 use Rattle.pac_run.specs.Run.{AtExit, AtMoments, IsBegun, IsRun, WhileAllStand, IfSeenKnown}
 use Rattle.pac_run.specs.Stopping.{IsUnopened}
@@ -26,10 +28,7 @@ few_taken left left' took = record { bytes = took.bytes; within = omega (arith, 
 pub run-taken : (group_size limit : ℕ) (left left' held held' : Option (List ℕ)) (known known' : Devices (Option DiskHistory)) (faulted : Type 0) (end : Result (Unit {0}) RunStop)
     → IsRun group_size limit left left' held held' known known' faulted end → GaveAtMost 67108865 left left'
 run-taken group_size limit left left' held held' known known' faulted (Ok done) ran = few_taken left left' (ran.few (λ e. absurd cc))
-run-taken group_size limit left left' held held' known known' faulted (Err run.NoStore) ran = few_taken left left' (ran.few (λ e. absurd cc))
-run-taken group_size limit left left' held held' known known' faulted (Err (run.Damaged damage)) ran = few_taken left left' (ran.few (λ e. absurd cc))
-run-taken group_size limit left left' held held' known known' faulted (Err (run.AbortInLog note)) ran = few_taken left left' (ran.few (λ e. absurd cc))
-run-taken group_size limit left left' held held' known known' faulted (Err (run.RowsOver name rows most)) ran = few_taken left left' (ran.few (λ e. absurd cc))
+run-taken group_size limit left left' held held' known known' faulted (Err (run.Opening error)) ran = few_taken left left' (ran.few (λ e. absurd cc))
 run-taken group_size limit left left' held held' known known' faulted (Err run.InputFault) ran = few_taken left left' (ran.few (λ e. absurd cc))
 run-taken group_size limit left left' held held' known known' faulted (Err run.OutputFault) ran = few_taken left left' (ran.few (λ e. absurd cc))
 run-taken group_size limit left left' held held' known known' faulted (Err run.DiskFault) ran = few_taken left left' (ran.few (λ e. absurd cc))
@@ -62,11 +61,15 @@ idle_rules group_size limit = record { catalogue = no_catalogue; limit = limit; 
 abbrev idle_start : SessionState
 idle_start = record { tables = empty; number = 0 }
 
-idle_begun : (rules : Rules) (place : ℕ) (start : SessionState) (log a b : Option DiskHistory) → IfSeenKnown (λ images. IsUnopened (Err run.NoMemory) [] ⊎ IsBegun rules place start images) (three log a b)
+-- there was no memory for the arguments
+abbrev pub no_memory : RunStop
+no_memory = run.Opening (recover.Load load.NoMemory)
+
+idle_begun : (rules : Rules) (place : ℕ) (start : SessionState) (log a b : Option DiskHistory) → IfSeenKnown (λ images. IsUnopened (Err no_memory) [] ⊎ IsBegun rules place start images) (three log a b)
 idle_begun rules place start None a b = tt
 idle_begun rules place start (Some l) None b = tt
 idle_begun rules place start (Some l) (Some x) None = tt
-idle_begun rules place start (Some l) (Some x) (Some y) = inl (tt, refl)
+idle_begun rules place start (Some l) (Some x) (Some y) = inl ((recover.Load load.NoMemory, refl), refl)
 
 idle_exit : (rules : Rules) (start : SessionState) (log a b : Option DiskHistory) → WhileAllStand (λ text catalogue history least. AtExit text catalogue history rules 0 start [] []) (three log a b) (three log a b)
 idle_exit rules start None a b = λ text catalogue history least. tt
@@ -80,7 +83,7 @@ idle_moments rules start (Some l) None b = λ text catalogue history least. tt
 idle_moments rules start (Some l) (Some x) None = λ text catalogue history least. tt
 idle_moments rules start (Some l) (Some x) (Some y) = λ text catalogue history least stand. rests (three l x y) (λ images are. inl are)
 
-pub idle-run : (group_size limit : ℕ) (left held : Option (List ℕ)) (log a b : Option DiskHistory) (faulted : Type 0) → IsRun group_size limit left left held held (three log a b) (three log a b) faulted (Err run.NoMemory)
+pub idle-run : (group_size limit : ℕ) (left held : Option (List ℕ)) (log a b : Option DiskHistory) (faulted : Type 0) → IsRun group_size limit left left held held (three log a b) (three log a b) faulted (Err no_memory)
 idle-run group_size limit left held log a b faulted = record {
   lines = [];
   ahead = [];
@@ -107,11 +110,11 @@ idle-run group_size limit left held log a b faulted = record {
   torn = λ e. absurd cc;
   slots = λ none. refl;
   still = λ none. refl;
-  there = inl (tt, refl);
+  there = inl ((recover.Load load.NoMemory, refl), refl);
   exit = idle_exit (idle_rules group_size limit) idle_start log a b;
   moments = idle_moments (idle_rules group_size limit) idle_start log a b;
   given = [];
   written = record { count = 0; is = refl };
   all = inl refl;
-  stopped = inl (tt, refl, refl);
+  stopped = inl ((recover.Load load.NoMemory, refl), refl, refl);
 }

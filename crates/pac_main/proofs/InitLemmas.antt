@@ -20,7 +20,7 @@ use Rattle.pac_script.specs.declared.script_fault.ScriptFault.{ScriptFault}
 use Rattle.pac_script.specs.declared.script_fault.ScriptFault.TheVariants.{Catalogue, TooManyOps, Line}
 use Rattle.pac_script.proofs.OneScript.{few_or_excess}
 use Rattle.pac_main.specs.Causes.{GivesNoText, InitStops}
-use Rattle.pac_main.specs.Explained.{IsUnexplained}
+use Rattle.pac_script.specs.Script.{IsUnaccepted}
 use Rattle.pac_main.specs.Init.{AreUntouched, IsAcceptedInput, IsNoStoreFor, IsNoStoreText, IsStoreText}
 use Rattle.pac_main.specs.Inputs.{input_of_read, input_of_script}
 use Rattle.pac_main.specs.Stop.{stop_of_make}
@@ -41,15 +41,15 @@ with_store old items whole has = (has, whole)
 pub store-text : (old new : Option (List ℕ)) (items : List ℕ) → Gave old items new → (length items ≤ 65536 → IsAtEnd new) → HasStore items → IsStoreText items old
 store-text old new items gave at_end has = with_store old items (whole-input old new items gave (at_end has.1.has.reads.short)) has
 
-not_accepted : (text : List ℕ) (fault : ScriptFault) (catalogue : CatalogueState) → IsUnexplained text fault → IsAccepted text catalogue → ⊥
+not_accepted : (text : List ℕ) (fault : ScriptFault) (catalogue : CatalogueState) → IsUnaccepted text fault → IsAccepted text catalogue → ⊥
 not_accepted text (Catalogue fault) catalogue h is = catalogue_or_fault text catalogue fault is.has h
 not_accepted text (TooManyOps name count) catalogue h is = few_or_excess text catalogue h.0 name count is.has is.few h.1 h.2
 not_accepted text (Line number f) catalogue h is = h
 
-no_store : (text : List ℕ) (fault : ScriptFault) → IsUnexplained text fault → IsNoStoreText text fault
+no_store : (text : List ℕ) (fault : ScriptFault) → IsUnaccepted text fault → IsNoStoreText text fault
 no_store text fault h = let cause = the_cause text fault h in record { is = cause.is; only = cause.only; none = λ catalogue is. not_accepted text fault catalogue h is }
 
-no_store_known : (items : List ℕ) (new : Option (List ℕ)) (fault : ScriptFault) → (length items ≤ 65536 → IsAtEnd new) → IsUnexplained items fault → IsNoStoreFor (prepend_known items new) fault
+no_store_known : (items : List ℕ) (new : Option (List ℕ)) (fault : ScriptFault) → (length items ≤ 65536 → IsAtEnd new) → IsUnaccepted items fault → IsNoStoreFor (prepend_known items new) fault
 no_store_known items None fault at_end is = tt
 no_store_known items (Some rest) fault at_end is = no_store (items ++ rest) fault (unexplained_longer items rest fault at_end is)
 
@@ -60,7 +60,7 @@ text-unread source read.NoMemory faulted = tt
 
 -- a text that is refused, is refused of the input
 pub text-refused : {T : Type 0} (source : Observed) (new : Option (List ℕ)) (items : List ℕ) (error : Refusal ScriptFault) → Gave source.before items new → (length items ≤ 65536 → IsAtEnd new)
-    → ((fault : ScriptFault) → ◌≡◌ {A = Result T (Refusal ScriptFault)} (Err error) (Err (refusal.Fault fault)) → IsUnexplained items fault) → GivesNoText source (input_of_script error)
+    → ((fault : ScriptFault) → ◌≡◌ {A = Result T (Refusal ScriptFault)} (Err error) (Err (refusal.Fault fault)) → IsUnaccepted items fault) → GivesNoText source (input_of_script error)
 text-refused source new items (refusal.Fault fault) gave at_end is = subst (λ (o : Option (List ℕ)). IsNoStoreFor o fault) (sym gave) (no_store_known items new fault at_end (is fault refl))
 text-refused source new items refusal.NoMemory gave at_end is = tt
 

@@ -32,10 +32,6 @@ err_is {T} {E} (Err e) x y a b = sym (error_same e x a) ∙ error_same e y b
 pub if_err : {T E : Type 0} (P : E → Type 0) (r : Result T E) (error : E) → r ≡ Err error → P error → IfErr r P
 if_err {T} {E} P r error is h = subst (λ (q : Result T E). IfErr q P) (sym is) h
 
--- what is at most this is at most more
-pub gave-more : (few many : ℕ) (old new : Option (List ℕ)) → few ≤ many → GaveAtMost few old new → GaveAtMost many old new
-gave-more few many old new le gave = record { bytes = gave.bytes; within = omega (arith, le, gave.within); prefix = gave.prefix }
-
 -- ---- the bytes that were read are the whole input, or more than it may have
 
 known_whole : (items : List ℕ) (new : Option (List ℕ)) → IsAtEnd new → IfSome (prepend_known items new) (λ all. all ≡ items)
@@ -44,13 +40,6 @@ known_whole items (Some rest) end = ap (λ (r : List ℕ). items ++ r) end ∙ a
 
 pub whole-input : (old new : Option (List ℕ)) (items : List ℕ) → Gave old items new → IsAtEnd new → IfSome old (λ all. all ≡ items)
 whole-input old new items gave end = subst (λ (o : Option (List ℕ)). IfSome o (λ all. all ≡ items)) (sym gave) (known_whole items new end)
-
-known_long : (most : ℕ) (items : List ℕ) (new : Option (List ℕ)) → most < length items → IfSome (prepend_known items new) (λ all. most < length all)
-known_long most items None long = tt
-known_long most items (Some rest) long = omega (arith, length-append items rest, long)
-
-pub long-input : (most : ℕ) (old new : Option (List ℕ)) (items : List ℕ) → Gave old items new → most < length items → IfSome old (λ all. most < length all)
-long-input most old new items gave long = subst (λ (o : Option (List ℕ)). IfSome o (λ all. most < length all)) (sym gave) (known_long most items new long)
 
 -- what is said of the whole input's text
 pub of-input : (P : List ℕ → Type 0) (old : Option (List ℕ)) (items : List ℕ) → IfSome old (λ all. all ≡ items) → P items → IfSome old P

@@ -5,7 +5,6 @@ pub mod StopLemmas
 pub mod StressLemmas
 pub mod ExplainLemmas
 pub mod OneExplanation
-pub mod CommandLemmas
 pub mod InitLemmas
 pub mod RecoverLemmas
 pub mod RunStatusLemmas

@@ -9,18 +9,14 @@ use Rattle.pac_outside.specs.declared.devices.Devices.{Devices}
 use Rattle.pac_outside.proofs.Runs.{three}
 use Rattle.pac_types.specs.Execution.{first_over}
 use Rattle.pac_types.specs.Typing.{CatalogueState}
-use Rattle.pac_log.specs.declared.damage.DamageKind.{DamageKind}
-use Rattle.pac_check.specs.declared.damage.SlotDamageKind.{SlotDamageKind}
-use Rattle.pac_check.specs.declared.info.SlotName.{SlotName}
 use Rattle.pac_store.specs.Images.{Images, IfReadKnown}
 use Rattle.pac_store.specs.Stands.{StandsFor}
-use Rattle.pac_recover.specs.declared.errors.Damage.TheVariants.{Log, Slot}
+use Rattle.pac_recover.specs.declared.errors.LoadError.TheVariants as load
 use Rattle.pac_recover.specs.declared.errors.RecoverError.{RecoverError}
 use Rattle.pac_recover.specs.declared.errors.RecoverError.TheVariants as recover
 use Rattle.pac_recover.specs.declared.recovery.Recovered.{Recovered}
-use Rattle.pac_recover.specs.Damages.{IsDamagedLog, IsDamagedSlot}
-use Rattle.pac_recover.specs.Recovering.{AbortsIn, IsPrefixOverLimit, IsOverIn, IsRecoveredFrom, IsRecoveredPrefix, Recovers}
-use Rattle.pac_recover.specs.Refusals.{HasNoStore, IfImagesKnown}
+use Rattle.pac_recover.specs.Recovering.{IsPrefixOverLimit, IsRecoveredFrom, IsRecoveredPrefix, Recovers}
+use Rattle.pac_recover.specs.Refusals.{AreRefused, IfImagesKnown}
 use Rattle.pac_report.specs.Dump.{tables_text}
 use Rattle.pac_main.specs.Causes.{IsPrefixUnrecovered, IsRecovered, IsUnrecovered, RecoverStops}
 use Rattle.pac_main.specs.Recover.{IsDumpOfPrefix, IsFaultless, IsRecovery, IsRefusedStore, RecoverEnds, RecoversPrefix, StaysInLimit}
@@ -57,14 +53,10 @@ IsError error other = ◌≡◌ {A = Result Recovered RecoverError} (Err error) 
 module _ (limit : ℕ) (log a b : Option DiskHistory) (was is : Devices ℕ) where
   -- what a recovery says with its error
   pub record Unrecovered (error : RecoverError) : Type 0 where
-    pub no_store : IsError error recover.NoStore → HasNoStore (three log a b)
-    pub log_damage : (at : ℕ) (kind : DamageKind) → IsError error (recover.Damaged (Log at kind)) → IfKnown (λ reported. IsDamagedLog at kind reported.now.seen) log
-    pub slot_damage : (slot : SlotName) (at : ℕ) (kind : SlotDamageKind) → IsError error (recover.Damaged (Slot slot at kind)) → IfReadKnown (IsDamagedSlot slot at kind) log a b
-    pub abort : (note : Note) → IsError error (recover.AbortInLog note) → IfReadKnown (AbortsIn note) log a b
-    pub over : (table : List ℕ) (rows most : ℕ) → IsError error (recover.RowsOver table rows most) → (most ≡ limit) × IfReadKnown (IsOverIn table rows limit) log a b
+    pub refused : AreRefused limit (three log a b) error
     pub stands : (text : List ℕ) (catalogue : CatalogueState) (history : List Txn) (least : ℕ) → IfReadKnown (λ images. StandsFor text catalogue history least images → Recovers catalogue history least (Err error)) log a b
-    pub disk_fault : IsError error recover.DiskFault → OneFaulted was is
-    pub quiet : (IsError error recover.DiskFault → ⊥) → is ≡ was
+    pub disk_fault : IsError error (recover.Load load.DiskFault) → OneFaulted was is
+    pub quiet : (IsError error (recover.Load load.DiskFault) → ⊥) → is ≡ was
 
   module _ (after : Devices (Option DiskHistory)) (sink : Observed) where
     -- the devices, as they are observed
@@ -72,29 +64,28 @@ module _ (limit : ℕ) (log a b : Option DiskHistory) (was is : Devices ℕ) whe
     devices = record { before = three log a b; after = after; faults_before = was; faults_after = is }
 
     cause : (error : RecoverError) → Unrecovered error → IsUnrecovered limit devices sink (stop_of_recover error)
-    cause recover.NoStore h = h.no_store refl
-    cause (recover.Damaged (Log at kind)) h = h.log_damage at kind refl
-    cause (recover.Damaged (Slot slot at kind)) h = h.slot_damage slot at kind refl
-    cause (recover.AbortInLog note) h = h.abort note refl
-    cause (recover.RowsOver name rows most) h = h.over name rows most refl
-    cause recover.DiskFault h = h.disk_fault refl
-    cause recover.NoMemory h = tt
+    cause (recover.Load load.NoStore) h = h.refused
+    cause (recover.Load (load.Damaged damage)) h = h.refused
+    cause (recover.Load load.DiskFault) h = h.disk_fault refl
+    cause (recover.Load load.NoMemory) h = tt
+    cause (recover.AbortInLog note) h = h.refused
+    cause (recover.RowsOver name rows most) h = h.refused
 
     prefix : (error : RecoverError) → Unrecovered error → (catalogue : CatalogueState) (history : List Txn) (least : ℕ) → Recovers catalogue history least (Err error) → IsPrefixUnrecovered limit catalogue history least sink (stop_of_recover error)
-    prefix recover.NoStore h catalogue history least f = absurd f
-    prefix (recover.Damaged damage) h catalogue history least f = absurd f
+    prefix (recover.Load load.NoStore) h catalogue history least f = absurd f
+    prefix (recover.Load (load.Damaged damage)) h catalogue history least f = absurd f
+    prefix (recover.Load load.DiskFault) h catalogue history least f = tt
+    prefix (recover.Load load.NoMemory) h catalogue history least f = tt
     prefix (recover.AbortInLog note) h catalogue history least f = absurd f
-    prefix (recover.RowsOver name rows most) h catalogue history least f = subst (λ (n : ℕ). IsPrefixOverLimit catalogue history least name rows n) (h.over name rows most refl).0 f
-    prefix recover.DiskFault h catalogue history least f = tt
-    prefix recover.NoMemory h catalogue history least f = tt
+    prefix (recover.RowsOver name rows most) h catalogue history least f = subst (λ (n : ℕ). IsPrefixOverLimit catalogue history least name rows n) h.refused.0 f
 
     no_fault : (error : RecoverError) → Unrecovered error → stop_of_recover error ≢ DiskFault → is ≡ was
-    no_fault recover.NoStore h other = h.quiet (λ e. absurd cc)
-    no_fault (recover.Damaged damage) h other = h.quiet (λ e. absurd cc)
+    no_fault (recover.Load load.NoStore) h other = h.quiet (λ e. absurd cc)
+    no_fault (recover.Load (load.Damaged damage)) h other = h.quiet (λ e. absurd cc)
+    no_fault (recover.Load load.DiskFault) h other = absurd (other refl)
+    no_fault (recover.Load load.NoMemory) h other = h.quiet (λ e. absurd cc)
     no_fault (recover.AbortInLog note) h other = h.quiet (λ e. absurd cc)
     no_fault (recover.RowsOver name rows most) h other = h.quiet (λ e. absurd cc)
-    no_fault recover.DiskFault h other = absurd (other refl)
-    no_fault recover.NoMemory h other = h.quiet (λ e. absurd cc)
 
     pub not-recovered : (error : RecoverError) → Unrecovered error → RecoverStops limit devices sink (stop_of_recover error)
     not-recovered error h = record {
@@ -263,31 +254,6 @@ module _ (limit : ℕ) (devices : ObservedDevices) (sink errors : Observed) wher
 
 -- ---- running out of memory has no cause
 
-no_memory : (limit n : ℕ) (devices : ObservedDevices) (sink : Observed) (catalogue : CatalogueState) (history : List Txn) (least : ℕ) → n ≡ 9 → RecoversPrefix limit n catalogue history least devices sink
-no_memory limit n devices sink catalogue history least is = record {
-  done = λ zero. absurd (omega (arith, is, zero));
-  undamaged = λ three. absurd (omega (arith, is, three));
-  executes = λ four. absurd (omega (arith, is, four));
-  over_limit = λ five. absurd (omega (arith, is, five));
-  output_fault = λ seven. absurd (omega (arith, is, seven));
-  complete = λ none stays. subst (λ (m : ℕ). IsOneOf m (0 ∷ 9 ∷ [])) (sym is) refl;
-}
-
 -- devices that are not called
 abbrev pub uncalled : Option DiskHistory → Option DiskHistory → Option DiskHistory → Devices ℕ → ObservedDevices
 uncalled log a b faults = record { before = three log a b; after = three log a b; faults_before = faults; faults_after = faults }
-
-pub recover-memory : (limit n : ℕ) (log a b : Option DiskHistory) (faults : Devices ℕ) (sink errors : Observed) → n ≡ 9 → RecoverEnds limit n (uncalled log a b faults) sink errors
-recover-memory limit n log a b faults sink errors is = record {
-  statuses = subst (λ (m : ℕ). IsOneOf m (0 ∷ 3 ∷ 4 ∷ 5 ∷ 7 ∷ 8 ∷ 9 ∷ [])) (sym is) refl;
-  stands = λ text catalogue history least.
-      read_free (λ images. StandsFor text catalogue history least images → RecoversPrefix limit n catalogue history least (uncalled log a b faults) sink) (λ images stands. no_memory limit n (uncalled log a b faults) sink catalogue history least is) log a b;
-  done = λ zero. absurd (omega (arith, is, zero));
-  refused = λ three. absurd (omega (arith, is, three));
-  aborted = λ four. absurd (omega (arith, is, four));
-  over_limit = λ five. absurd (omega (arith, is, five));
-  output_fault = λ seven. absurd (omega (arith, is, seven));
-  disk_fault = λ eight. absurd (omega (arith, is, eight));
-  untouched = refl;
-  quiet = λ other. refl;
-}

@@ -2,39 +2,37 @@
 use Rattle.std.proofs.Common.{◌≡◌, ◌≢◌, ◌⊎◌, ℕ, Bool, true, false, List, [], ◌∷◌, take, Option, Some, None, Result, Ok, Err, inl, inr, refl, sym, ap, subst, ◌∙◌, arith}
 use Rattle.std.specs.Prelude.{IsTrue}
 use Rattle.std.proofs.Math.Seq.{take-nil}
-use Rattle.pac_ops.specs.declared.note.Note.{Note}
 use Rattle.pac_ops.specs.declared.transaction.Txn.{Txn}
 use Rattle.pac_outside.specs.Devices.{OneFaulted}
-use Rattle.pac_outside.specs.Disk.{DiskHistory, IfKnown}
+use Rattle.pac_outside.specs.Disk.{DiskHistory}
 use Rattle.pac_outside.specs.declared.devices.Devices.{Devices}
 use Rattle.pac_outside.proofs.Runs.{three}
 use Rattle.pac_types.specs.Typing.{CatalogueState}
-use Rattle.pac_log.specs.declared.damage.DamageKind.{DamageKind}
-use Rattle.pac_check.specs.declared.damage.SlotDamageKind.{SlotDamageKind}
-use Rattle.pac_check.specs.declared.info.SlotName.{SlotName}
 use Rattle.pac_store.specs.Images.{Images, IfReadKnown}
 use Rattle.pac_store.specs.Stands.{StandsFor}
 use Rattle.pac_recover.specs.declared.errors.Damage.TheVariants.{Log, Slot}
-use Rattle.pac_recover.specs.Damages.{IsDamagedLog, IsDamagedSlot}
-use Rattle.pac_recover.specs.Recovering.{AbortsIn, IsPrefixOverLimit, IsOverIn}
-use Rattle.pac_recover.specs.Refusals.{HasNoStore}
+use Rattle.pac_recover.specs.declared.errors.LoadError.TheVariants as load
+use Rattle.pac_recover.specs.declared.errors.RecoverError.{RecoverError}
+use Rattle.pac_recover.specs.declared.errors.RecoverError.TheVariants as recover
+use Rattle.pac_recover.specs.Recovering.{IsPrefixOverLimit}
+use Rattle.pac_recover.specs.Refusals.{AreRefused}
 use Rattle.pac_recover.proofs.StandsLemmas.{is-store, no-abort, no-log-damage, no-slot-damage, over-prefix}
 use Rattle.pac_session.specs.Session.{Rules, SessionState}
 use Rattle.pac_request.specs.declared.request.Request.{Request}
 use Rattle.pac_request.specs.declared.request.Reply.{Reply}
 use Rattle.pac_run.specs.Run.{IsRun}
-use Rattle.pac_run.specs.Stopping.{IsStopped, RefusesStore}
+use Rattle.pac_run.specs.Stopping.{DeviceFailed, IsStopped, RefusesStore}
 use Rattle.pac_run.specs.Texts.{IsTextPrefix, texts}
 use Rattle.pac_run.specs.declared.stop.RunStop.{RunStop}
 use Rattle.pac_run.specs.declared.stop.RunStop.TheVariants as run
 use Rattle.pac_main.specs.Causes.{RunCause}
 use Rattle.pac_main.specs.Recover.{IsRefusedStore}
 use Rattle.pac_main.specs.Run.{LeavesStore, RunEnds, RunsOnPrefix}
-use Rattle.pac_main.specs.Stop.{line_of, status_of, stop_of_run, takes_memory}
+use Rattle.pac_main.specs.Stop.{line_of, status_of, stop_of_recover, stop_of_run, takes_memory}
 use Rattle.pac_main.specs.Streams.{AnyFaulted, IsOneOf, IsReported, Observed, ObservedDevices}
 use Rattle.pac_main.specs.declared.stop.Stop.{Stop}
 use Rattle.pac_main.specs.declared.stop.Stop.TheVariants as stop
-use Rattle.pac_main.proofs.IdleLemmas.{idle-run}
+use Rattle.pac_main.proofs.IdleLemmas.{idle-run, no_memory}
 use Rattle.pac_main.proofs.RecoverLemmas.{uncalled}
 use Rattle.pac_main.proofs.RunStatusLemmas.{RunDamage, run_aborted_of, run_disk_of, run_full_of, run_input_of, run_large_of, run_long_of, run_never_done, run_output_of, run_over_of, run_refused_of}
 use Rattle.pac_main.proofs.StopLemmas.{Reported}
@@ -48,25 +46,17 @@ IsStop why other = ◌≡◌ {A = Result (Unit {0}) RunStop} (Err why) (Err othe
 module _ (limit : ℕ) (source sink : Observed) (log a b : Option DiskHistory) (was is : Devices ℕ) where
   -- what a run says with its stop
   pub record ReportsStop (why : RunStop) : Type 0 where
-    pub no_store : IsStop why run.NoStore → HasNoStore (three log a b)
-    pub log_damage : (at : ℕ) (kind : DamageKind) → IsStop why (run.Damaged (Log at kind)) → IfKnown (λ reported. IsDamagedLog at kind reported.now.seen) log
-    pub slot_damage : (slot : SlotName) (at : ℕ) (kind : SlotDamageKind) → IsStop why (run.Damaged (Slot slot at kind)) → IfReadKnown (IsDamagedSlot slot at kind) log a b
-    pub abort : (note : Note) → IsStop why (run.AbortInLog note) → IfReadKnown (AbortsIn note) log a b
-    pub over : (table : List ℕ) (rows most : ℕ) → IsStop why (run.RowsOver table rows most) → (most ≡ limit) × IfReadKnown (IsOverIn table rows limit) log a b
+    pub refused : (error : RecoverError) → IsStop why (run.Opening error) → AreRefused limit (three log a b) error
     pub input_fault : IsStop why run.InputFault → AnyFaulted source
     pub output_fault : IsStop why run.OutputFault → AnyFaulted sink
-    pub disk_fault : IsStop why run.DiskFault → OneFaulted was is
+    pub disk_fault : DeviceFailed why → OneFaulted was is
 
   module _ (after : Devices (Option DiskHistory)) where
     pub run-cause : (why : RunStop) → ReportsStop why → RunCause limit source sink (record { before = three log a b; after = after; faults_before = was; faults_after = is }) why
-    run-cause run.NoStore h = h.no_store refl
-    run-cause (run.Damaged (Log at kind)) h = h.log_damage at kind refl
-    run-cause (run.Damaged (Slot slot at kind)) h = h.slot_damage slot at kind refl
-    run-cause (run.AbortInLog note) h = h.abort note refl
-    run-cause (run.RowsOver name rows most) h = h.over name rows most refl
+    run-cause (run.Opening error) h = (h.refused error refl, h.disk_fault)
     run-cause run.InputFault h = h.input_fault refl
     run-cause run.OutputFault h = h.output_fault refl
-    run-cause run.DiskFault h = h.disk_fault refl
+    run-cause run.DiskFault h = h.disk_fault tt
     run-cause run.NoMemory h = tt
     run-cause (run.LogFull need) h = tt
     run-cause run.TooLong h = tt
@@ -76,10 +66,10 @@ module _ (limit : ℕ) (source sink : Observed) (log a b : Option DiskHistory) (
 
 -- why a run stops there
 abbrev pub IsPrefixStop : ℕ → CatalogueState → List Txn → ℕ → RunStop → Type 0
-IsPrefixStop limit catalogue history least run.NoStore = ⊥
-IsPrefixStop limit catalogue history least (run.Damaged damage) = ⊥
-IsPrefixStop limit catalogue history least (run.AbortInLog note) = ⊥
-IsPrefixStop limit catalogue history least (run.RowsOver name rows most) = IsPrefixOverLimit catalogue history least name rows limit
+IsPrefixStop limit catalogue history least (run.Opening (recover.Load load.NoStore)) = ⊥
+IsPrefixStop limit catalogue history least (run.Opening (recover.Load (load.Damaged damage))) = ⊥
+IsPrefixStop limit catalogue history least (run.Opening (recover.AbortInLog note)) = ⊥
+IsPrefixStop limit catalogue history least (run.Opening (recover.RowsOver name rows most)) = IsPrefixOverLimit catalogue history least name rows limit
 IsPrefixStop limit catalogue history least _ = Unit {0}
 
 module _ (limit : ℕ) (source sink : Observed) (after : Devices (Option DiskHistory)) (was is : Devices ℕ) (text : List ℕ) (catalogue : CatalogueState) (history : List Txn) (least : ℕ) where
@@ -88,11 +78,13 @@ module _ (limit : ℕ) (source sink : Observed) (after : Devices (Option DiskHis
 
   prefix_here : (l x y : DiskHistory) (why : RunStop) → RunCause limit source sink (held_by (Some l) (Some x) (Some y)) why
       → StandsFor text catalogue history least (record { log = l.now.seen; slot_a = x.now.seen; slot_b = y.now.seen }) → IsPrefixStop limit catalogue history least why
-  prefix_here l x y run.NoStore h stands = is-store text catalogue history least (record { log = l.now.seen; slot_a = x.now.seen; slot_b = y.now.seen }) stands h
-  prefix_here l x y (run.Damaged (Log at kind)) h stands = no-log-damage text catalogue history least (record { log = l.now.seen; slot_a = x.now.seen; slot_b = y.now.seen }) stands at kind h
-  prefix_here l x y (run.Damaged (Slot slot at kind)) h stands = no-slot-damage text catalogue history least (record { log = l.now.seen; slot_a = x.now.seen; slot_b = y.now.seen }) stands slot at kind h
-  prefix_here l x y (run.AbortInLog note) h stands = no-abort text catalogue history least (record { log = l.now.seen; slot_a = x.now.seen; slot_b = y.now.seen }) stands note h
-  prefix_here l x y (run.RowsOver name rows most) h stands = over-prefix text catalogue history least (record { log = l.now.seen; slot_a = x.now.seen; slot_b = y.now.seen }) stands name rows limit h.1
+  prefix_here l x y (run.Opening (recover.Load load.NoStore)) h stands = is-store text catalogue history least (record { log = l.now.seen; slot_a = x.now.seen; slot_b = y.now.seen }) stands h.0
+  prefix_here l x y (run.Opening (recover.Load (load.Damaged (Log at kind)))) h stands = no-log-damage text catalogue history least (record { log = l.now.seen; slot_a = x.now.seen; slot_b = y.now.seen }) stands at kind h.0
+  prefix_here l x y (run.Opening (recover.Load (load.Damaged (Slot slot at kind)))) h stands = no-slot-damage text catalogue history least (record { log = l.now.seen; slot_a = x.now.seen; slot_b = y.now.seen }) stands slot at kind h.0
+  prefix_here l x y (run.Opening (recover.Load load.DiskFault)) h stands = tt
+  prefix_here l x y (run.Opening (recover.Load load.NoMemory)) h stands = tt
+  prefix_here l x y (run.Opening (recover.AbortInLog note)) h stands = no-abort text catalogue history least (record { log = l.now.seen; slot_a = x.now.seen; slot_b = y.now.seen }) stands note h.0
+  prefix_here l x y (run.Opening (recover.RowsOver name rows most)) h stands = over-prefix text catalogue history least (record { log = l.now.seen; slot_a = x.now.seen; slot_b = y.now.seen }) stands name rows limit h.0.1
   prefix_here l x y run.InputFault h stands = tt
   prefix_here l x y run.OutputFault h stands = tt
   prefix_here l x y run.DiskFault h stands = tt
@@ -127,10 +119,12 @@ other_prefix : (limit n : ℕ) (catalogue : CatalogueState) (history : List Txn)
 other_prefix limit n catalogue history least three four five = record { undamaged = three; executes = four; over_limit = λ e. absurd (five e) }
 
 prefix_of : (limit : ℕ) (catalogue : CatalogueState) (history : List Txn) (least : ℕ) (why : RunStop) → IsPrefixStop limit catalogue history least why → RunsOnPrefix limit (status_of (stop_of_run why)) catalogue history least
-prefix_of limit catalogue history least run.NoStore h = absurd h
-prefix_of limit catalogue history least (run.Damaged damage) h = absurd h
-prefix_of limit catalogue history least (run.AbortInLog note) h = absurd h
-prefix_of limit catalogue history least (run.RowsOver name rows most) h = record { undamaged = λ e. absurd (omega (arith, e)); executes = λ e. absurd (omega (arith, e)); over_limit = λ e. (name, rows, h) }
+prefix_of limit catalogue history least (run.Opening (recover.Load load.NoStore)) h = absurd h
+prefix_of limit catalogue history least (run.Opening (recover.Load (load.Damaged damage))) h = absurd h
+prefix_of limit catalogue history least (run.Opening (recover.Load load.DiskFault)) h = other_prefix limit 8 catalogue history least (λ e. absurd (omega (arith, e))) (λ e. absurd (omega (arith, e))) (λ e. absurd (omega (arith, e)))
+prefix_of limit catalogue history least (run.Opening (recover.Load load.NoMemory)) h = other_prefix limit 9 catalogue history least (λ e. absurd (omega (arith, e))) (λ e. absurd (omega (arith, e))) (λ e. absurd (omega (arith, e)))
+prefix_of limit catalogue history least (run.Opening (recover.AbortInLog note)) h = absurd h
+prefix_of limit catalogue history least (run.Opening (recover.RowsOver name rows most)) h = record { undamaged = λ e. absurd (omega (arith, e)); executes = λ e. absurd (omega (arith, e)); over_limit = λ e. (name, rows, h) }
 prefix_of limit catalogue history least run.InputFault h = other_prefix limit 6 catalogue history least (λ e. absurd (omega (arith, e))) (λ e. absurd (omega (arith, e))) (λ e. absurd (omega (arith, e)))
 prefix_of limit catalogue history least run.OutputFault h = other_prefix limit 7 catalogue history least (λ e. absurd (omega (arith, e))) (λ e. absurd (omega (arith, e))) (λ e. absurd (omega (arith, e)))
 prefix_of limit catalogue history least run.DiskFault h = other_prefix limit 8 catalogue history least (λ e. absurd (omega (arith, e))) (λ e. absurd (omega (arith, e))) (λ e. absurd (omega (arith, e)))
@@ -140,10 +134,12 @@ prefix_of limit catalogue history least run.TooLong h = other_prefix limit 11 ca
 prefix_of limit catalogue history least (run.TooLarge bytes) h = other_prefix limit 12 catalogue history least (λ e. absurd (omega (arith, e))) (λ e. absurd (omega (arith, e))) (λ e. absurd (omega (arith, e)))
 
 run_status : (why : RunStop) → IsOneOf (status_of (stop_of_run why)) (0 ∷ 3 ∷ 4 ∷ 5 ∷ 6 ∷ 7 ∷ 8 ∷ 9 ∷ 10 ∷ 11 ∷ 12 ∷ [])
-run_status run.NoStore = refl
-run_status (run.Damaged damage) = refl
-run_status (run.AbortInLog note) = refl
-run_status (run.RowsOver name rows most) = refl
+run_status (run.Opening (recover.Load load.NoStore)) = refl
+run_status (run.Opening (recover.Load (load.Damaged damage))) = refl
+run_status (run.Opening (recover.Load load.DiskFault)) = refl
+run_status (run.Opening (recover.Load load.NoMemory)) = refl
+run_status (run.Opening (recover.AbortInLog note)) = refl
+run_status (run.Opening (recover.RowsOver name rows most)) = refl
 run_status run.InputFault = refl
 run_status run.OutputFault = refl
 run_status run.DiskFault = refl
@@ -158,10 +154,12 @@ no_text catalogue given out none prefix = prefix.is ∙ ap (λ (g : List Reply).
 
 -- the statuses of a store that is refused
 refuses_of : (why : RunStop) → IsOneOf (status_of (stop_of_run why)) (3 ∷ 4 ∷ 5 ∷ []) → RefusesStore why
-refuses_of run.NoStore early = tt
-refuses_of (run.Damaged damage) early = tt
-refuses_of (run.AbortInLog note) early = tt
-refuses_of (run.RowsOver name rows most) early = tt
+refuses_of (run.Opening (recover.Load load.NoStore)) early = tt
+refuses_of (run.Opening (recover.Load (load.Damaged damage))) early = tt
+refuses_of (run.Opening (recover.Load load.DiskFault)) early = let no : ◌≡◌ {A = Bool} false true = early in absurd cc
+refuses_of (run.Opening (recover.Load load.NoMemory)) early = let no : ◌≡◌ {A = Bool} false true = early in absurd cc
+refuses_of (run.Opening (recover.AbortInLog note)) early = tt
+refuses_of (run.Opening (recover.RowsOver name rows most)) early = tt
 refuses_of run.InputFault early = let no : ◌≡◌ {A = Bool} false true = early in absurd cc
 refuses_of run.OutputFault early = let no : ◌≡◌ {A = Bool} false true = early in absurd cc
 refuses_of run.DiskFault early = let no : ◌≡◌ {A = Bool} false true = early in absurd cc
@@ -171,39 +169,30 @@ refuses_of run.TooLong early = let no : ◌≡◌ {A = Bool} false true = early 
 refuses_of (run.TooLarge bytes) early = let no : ◌≡◌ {A = Bool} false true = early in absurd cc
 
 -- no other stop has the status of a failed device, and its line takes no memory
-disk_status : (why : RunStop) → IsStop why run.DiskFault → status_of (stop_of_run why) ≡ 8
+disk_status : (why : RunStop) → DeviceFailed why → status_of (stop_of_run why) ≡ 8
+disk_status (run.Opening error) e = ap (λ (x : RecoverError). status_of (stop_of_recover x)) e
 disk_status run.DiskFault e = refl
-disk_status run.NoStore e = absurd cc
-disk_status (run.Damaged damage) e = absurd cc
-disk_status (run.AbortInLog note) e = absurd cc
-disk_status (run.RowsOver name rows most) e = absurd cc
-disk_status run.InputFault e = absurd cc
-disk_status run.OutputFault e = absurd cc
-disk_status run.NoMemory e = absurd cc
-disk_status (run.LogFull need) e = absurd cc
-disk_status run.TooLong e = absurd cc
-disk_status (run.TooLarge bytes) e = absurd cc
+disk_status run.InputFault e = absurd e
+disk_status run.OutputFault e = absurd e
+disk_status run.NoMemory e = absurd e
+disk_status (run.LogFull need) e = absurd e
+disk_status run.TooLong e = absurd e
+disk_status (run.TooLarge bytes) e = absurd e
 
-no_memory_disk : (why : RunStop) → IsTrue (takes_memory (stop_of_run why)) → IsStop why run.DiskFault → ⊥
-no_memory_disk run.DiskFault memory e = let no : ◌≡◌ {A = Bool} false true = memory in absurd cc
-no_memory_disk run.NoStore memory e = absurd cc
-no_memory_disk (run.Damaged damage) memory e = absurd cc
-no_memory_disk (run.AbortInLog note) memory e = absurd cc
-no_memory_disk (run.RowsOver name rows most) memory e = absurd cc
-no_memory_disk run.InputFault memory e = absurd cc
-no_memory_disk run.OutputFault memory e = absurd cc
-no_memory_disk run.NoMemory memory e = absurd cc
-no_memory_disk (run.LogFull need) memory e = absurd cc
-no_memory_disk run.TooLong memory e = absurd cc
-no_memory_disk (run.TooLarge bytes) memory e = absurd cc
+no_memory_disk : (why : RunStop) → IsTrue (takes_memory (stop_of_run why)) → DeviceFailed why → ⊥
+no_memory_disk (run.Opening error) memory e = let no : ◌≡◌ {A = Bool} false true = subst (λ (x : RecoverError). IsTrue (takes_memory (stop_of_recover x))) e memory in cc
+no_memory_disk run.DiskFault memory e = let no : ◌≡◌ {A = Bool} false true = memory in cc
+no_memory_disk run.InputFault memory e = e
+no_memory_disk run.OutputFault memory e = e
+no_memory_disk run.NoMemory memory e = e
+no_memory_disk (run.LogFull need) memory e = e
+no_memory_disk run.TooLong memory e = e
+no_memory_disk (run.TooLarge bytes) memory e = e
 
 none_given : (rules : Rules) (place : ℕ) (start : SessionState) (requests : List Request) (given : List Reply) (why : RunStop)
     → IsOneOf (status_of (stop_of_run why)) (3 ∷ 4 ∷ 5 ∷ []) → IsStopped rules place start requests given why → given ≡ []
 none_given rules place start requests given why early (inl none) = none.2
-none_given rules place start requests given run.NoStore early (inr at) = absurd at
-none_given rules place start requests given (run.Damaged damage) early (inr at) = absurd at
-none_given rules place start requests given (run.AbortInLog note) early (inr at) = absurd at
-none_given rules place start requests given (run.RowsOver name rows most) early (inr at) = absurd at
+none_given rules place start requests given (run.Opening error) early (inr at) = absurd at
 none_given rules place start requests given run.InputFault early (inr at) = let no : ◌≡◌ {A = Bool} false true = early in absurd cc
 none_given rules place start requests given run.OutputFault early (inr at) = let no : ◌≡◌ {A = Bool} false true = early in absurd cc
 none_given rules place start requests given run.DiskFault early (inr at) = let no : ◌≡◌ {A = Bool} false true = early in absurd cc
@@ -225,16 +214,26 @@ module _ (group_size limit : ℕ) (source sink errors : Observed) (log a b : Opt
   abbrev LineReported : RunStop → Type 0
   LineReported why = IsReported errors (line_of (stop_of_run why))
 
-  refused : (why : RunStop) → (why ≡ run.NoStore) ⊎ RunDamage why → Cause why → LineReported why → IsRefusedStore devices.before errors
-  refused why (inl e) h line = inl (subst Cause e h, subst LineReported e line)
-  refused why (inr d) h line = inr (d.damage, subst Cause d.is h, subst LineReported d.is line)
+  refused : (why : RunStop) → (why ≡ run.Opening (recover.Load load.NoStore)) ⊎ RunDamage why → Cause why → LineReported why → IsRefusedStore devices.before errors
+  refused why (inl e) h line = inl ((subst Cause e h).0, subst LineReported e line)
+  refused why (inr d) h line = inr (d.damage, (subst Cause d.is h).0, subst LineReported d.is line)
 
   end_is : (why other : RunStop) → why ≡ other → ◌≡◌ {A = Result (Unit {0}) RunStop} (Err why) (Err other)
   end_is why other e = cc
 
+  disk_cause : (why : RunStop) → DeviceFailed why → Cause why → OneFaulted was is
+  disk_cause (run.Opening error) e h = h.1 e
+  disk_cause run.DiskFault e h = h
+  disk_cause run.InputFault e h = absurd e
+  disk_cause run.OutputFault e h = absurd e
+  disk_cause run.NoMemory e h = absurd e
+  disk_cause (run.LogFull need) e h = absurd e
+  disk_cause run.TooLong e h = absurd e
+  disk_cause (run.TooLarge bytes) e h = absurd e
+
   -- no device failed, unless that is why it stopped
   abbrev Quiet : RunStop → Type 0
-  Quiet why = (IsStop why run.DiskFault → ⊥) → is ≡ was
+  Quiet why = (DeviceFailed why → ⊥) → is ≡ was
 
   -- what the store's refusal leaves
   abbrev Left : RunStop → Type 0
@@ -250,15 +249,15 @@ module _ (group_size limit : ℕ) (source sink errors : Observed) (log a b : Opt
         (λ images f stands. prefix_of limit catalogue history least why (f stands)) log a b (run-prefix limit source sink after was is text catalogue history least log a b why h);
     done = λ zero. absurd (run_never_done why zero);
     refused = λ three. (refuses_of why (subst (λ (m : ℕ). IsOneOf m (3 ∷ 4 ∷ 5 ∷ [])) (sym three) refl), refused why (run_refused_of why three) h line);
-    aborted = λ four. let t = run_aborted_of why four in (t.note, end_is why (run.AbortInLog t.note) t.is, subst Cause t.is h, subst LineReported t.is line);
+    aborted = λ four. let t = run_aborted_of why four in (t.note, end_is why (run.Opening (recover.AbortInLog t.note)) t.is, (subst Cause t.is h).0, subst LineReported t.is line);
     over_limit = λ five.
         let t = run_over_of why five in
-        let cause = subst Cause t.is h in
-        (t.name, t.rows, subst (λ (n : ℕ). IsStop why (run.RowsOver t.name t.rows n)) cause.0 (end_is why (run.RowsOver t.name t.rows t.most) t.is), cause.1, subst (λ (n : ℕ). IsReported errors (line_of (stop.RowsOver t.name t.rows n))) cause.0 (subst LineReported t.is line));
+        let cause = (subst Cause t.is h).0 in
+        (t.name, t.rows, subst (λ (n : ℕ). IsStop why (run.Opening (recover.RowsOver t.name t.rows n))) cause.0 (end_is why (run.Opening (recover.RowsOver t.name t.rows t.most)) t.is), cause.1, subst (λ (n : ℕ). IsReported errors (line_of (stop.RowsOver t.name t.rows n))) cause.0 (subst LineReported t.is line));
     unserved = λ early. no_text ran.rules.catalogue ran.given ran.out (none_given ran.rules ran.place ran.start ran.requests ran.given why early ran.stopped) ran.written;
     input_fault = λ six. (end_is why run.InputFault (run_input_of why six), subst Cause (run_input_of why six) h);
     output_fault = λ seven. (end_is why run.OutputFault (run_output_of why seven), subst Cause (run_output_of why seven) h);
-    disk_fault = λ eight. (end_is why run.DiskFault (run_disk_of why eight), subst Cause (run_disk_of why eight) h);
+    disk_fault = λ eight. (run_disk_of why eight, disk_cause why (run_disk_of why eight) h);
     log_full = λ ten. let t = run_full_of why ten in (t.need, end_is why (run.LogFull t.need) t.is, subst LineReported t.is line);
     too_long = λ eleven. end_is why run.TooLong (run_long_of why eleven);
     too_large = λ twelve. let t = run_large_of why twelve in (t.bytes, end_is why (run.TooLarge t.bytes) t.is, subst LineReported t.is line);
@@ -326,4 +325,4 @@ still bytes faults = record { before = bytes; after = bytes; faults_before = fau
 
 pub run-idle : (group_size limit n : ℕ) (left held : Option (List ℕ)) (reads writes : ℕ) (log a b : Option DiskHistory) (faults : Devices ℕ) (errors : Observed) → n ≡ 9 → RunEnds group_size limit n (still left reads) (still held writes) errors (uncalled log a b faults)
 run-idle group_size limit n left held reads writes log a b faults errors nine =
-    run-memory group_size limit (still left reads) (still held writes) errors log a b (three log a b) faults faults (Err run.NoMemory) n nine (idle-run group_size limit left held log a b (AnyFaulted (still held writes))) refl
+    run-memory group_size limit (still left reads) (still held writes) errors log a b (three log a b) faults faults (Err no_memory) n nine (idle-run group_size limit left held log a b (AnyFaulted (still held writes))) refl

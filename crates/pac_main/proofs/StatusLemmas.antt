@@ -97,11 +97,5 @@ module _ (stop : Stop) where
   pub disk_of : status_of stop ≡ 8 → stop ≡ DiskFault
   disk_of = of_status 8
 
-  pub full_of : status_of stop ≡ 10 → AFullLog stop
-  full_of = of_status 10
-
   pub long_of : status_of stop ≡ 11 → stop ≡ TooLong
   long_of = of_status 11
-
-  pub large_of : status_of stop ≡ 12 → ALargeSlot stop
-  large_of = of_status 12

@@ -88,11 +88,6 @@ module _ (limit : ℕ) (source sink : Observed) where
   replay-ends errors stop reported status is which cause line =
       subst (λ (n : ℕ). ReplayEnds limit n source sink errors) (sym is) (ends_reported errors reported (reported_cause (ReplayStops limit source sink) stop reported which tt cause) line)
 
--- execution stops for an abort, or for running out of memory
-pub execution-stops : (limit : ℕ) (script : Script) (error : AllError) → DoesEnd (Err error) (outcome script) → ScriptStops limit script (stop_of_serial error)
-execution-stops limit script (serial.Abort note) h = h
-execution-stops limit script serial.NoMemory h = tt
-
 -- a script whose tables are over the limit
 pub over-stops : (limit : ℕ) (script : Script) (tables : Tables) (excess : TooManyRows) → outcome script ≡ Ok tables → IsFirstOver limit script.catalogue.tables tables excess.table excess.rows → excess.limit ≡ limit → ScriptStops limit script (stop_of_excess excess)
 over-stops limit script tables excess ends over is = ((tables, ends, over), is)

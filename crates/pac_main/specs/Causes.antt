@@ -8,7 +8,9 @@ use Rattle.pac_types.specs.Typing.{CatalogueState}
 use Rattle.pac_store.specs.Stands.{StandsFor}
 use Rattle.pac_recover.specs.Limits.{IsFirstOver}
 use Rattle.pac_recover.specs.Recovering.{AbortsIn, IsPrefixOverLimit, IsOverIn}
-use Rattle.pac_recover.specs.Refusals.{HasDamage, HasNoStore, IfImagesKnown}
+use Rattle.pac_recover.specs.declared.errors.LoadError.TheVariants as load
+use Rattle.pac_recover.specs.declared.errors.RecoverError.TheVariants as recover
+use Rattle.pac_recover.specs.Refusals.{AreRefused, HasDamage, HasNoStore, IfImagesKnown}
 use Rattle.pac_script.specs.declared.script.Script.{Script}
 use Rattle.pac_run.specs.declared.stop.RunStop.{RunStop}
 use Rattle.pac_run.specs.declared.stop.RunStop.TheVariants as run
@@ -140,10 +142,7 @@ pub record IsRecovered (limit : ℕ) (devices : ObservedDevices) (sink : Observe
 
 -- why a run stops before its end, by its own stop; where it stopped is said by the run
 abbrev pub RunCause : ℕ → Observed → Observed → ObservedDevices → RunStop → Type 0
-RunCause limit source sink devices run.NoStore = HasNoStore devices.before
-RunCause limit source sink devices (run.Damaged damage) = HasDamage damage devices.before
-RunCause limit source sink devices (run.AbortInLog note) = IfImagesKnown (AbortsIn note) devices.before
-RunCause limit source sink devices (run.RowsOver name rows most) = (most ≡ limit) × IfImagesKnown (IsOverIn name rows limit) devices.before
+RunCause limit source sink devices (run.Opening error) = AreRefused limit devices.before error × (error ≡ recover.Load load.DiskFault → OneFaulted devices.faults_before devices.faults_after)
 RunCause limit source sink devices run.InputFault = AnyFaulted source
 RunCause limit source sink devices run.OutputFault = AnyFaulted sink
 RunCause limit source sink devices run.DiskFault = OneFaulted devices.faults_before devices.faults_after

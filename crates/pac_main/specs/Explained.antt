@@ -5,7 +5,6 @@ use Rattle.pac_syntax.specs.declared.tree.Tree.{Tree}
 use Rattle.pac_syntax.specs.Reading.{Reads}
 use Rattle.pac_print.specs.Canonical.{canonical}
 use Rattle.pac_types.specs.Typing.{CatalogueState, Types}
-use Rattle.pac_types.specs.CatalogueText.{HasCatalogue, IsCatalogueFault}
 use Rattle.pac_types.specs.Faults.{IsFirstTypeFault}
 use Rattle.pac_types.specs.declared.text.CatalogueFault.TheVariants.{Syntax, Typing}
 use Rattle.pac_types.specs.OperationLimits.{HasFewOperations}
@@ -19,7 +18,7 @@ use Rattle.pac_plan.specs.Analysis.{IsPlan}
 use Rattle.pac_report.specs.Explain.{explain_text}
 use Rattle.pac_script.specs.declared.script_fault.ScriptFault.{ScriptFault}
 use Rattle.pac_script.specs.declared.script_fault.ScriptFault.TheVariants.{Catalogue, TooManyOps, Line}
-use Rattle.pac_script.specs.Script.{IsExcess}
+use Rattle.pac_script.specs.Script.{IsExcess, IsUnaccepted}
 use Rattle.pac_main.specs.declared.stop.Stop.TheVariants as stop
 use Rattle.pac_main.specs.Streams.{Observed, AnyFaulted, IsTaken, IsPrefixTaken, IsReported, IsOneOf}
 use Rattle.pac_main.specs.Stop.{line_of}
@@ -72,16 +71,10 @@ IsUnexplainedTree tree (Catalogue (Typing fault)) = IsFirstTypeFault tree fault
 IsUnexplainedTree tree (TooManyOps name count) = (catalogue : CatalogueState) × Types tree catalogue × IsExcess catalogue.procs name count
 IsUnexplainedTree tree (Line number fault) = ⊥
 
--- a text, for the first fault where it has no catalogue, or for the first procedure at which operations are too many
-abbrev pub IsUnexplained : List ℕ → ScriptFault → Type 0
-IsUnexplained text (Catalogue fault) = IsCatalogueFault text fault
-IsUnexplained text (TooManyOps name count) = (catalogue : CatalogueState) × HasCatalogue text catalogue × IsExcess catalogue.procs name count
-IsUnexplained text (Line number fault) = ⊥
-
 -- the text isn't explained for this cause and for no other, and nothing explains it
 pub record IsTheCause (text : List ℕ) (fault : ScriptFault) : Type 0 where
-  pub is : IsUnexplained text fault
-  pub only : (other : ScriptFault) → IsUnexplained text other → other ≡ fault
+  pub is : IsUnaccepted text fault
+  pub only : (other : ScriptFault) → IsUnaccepted text other → other ≡ fault
   pub none : (with_text : Bool) (written : List ℕ) → IsExplanation with_text text written → ⊥
 
 -- the input isn't explained for this cause, where the source's bytes are known

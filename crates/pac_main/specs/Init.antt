@@ -7,7 +7,7 @@ use Rattle.pac_store.specs.Made.{IsInUse, MakesStore}
 use Rattle.pac_store.specs.declared.device.DeviceName.{DeviceName}
 use Rattle.pac_script.specs.declared.script_fault.ScriptFault.{ScriptFault}
 use Rattle.pac_main.specs.declared.stop.Stop.TheVariants as stop
-use Rattle.pac_main.specs.Explained.{IsUnexplained}
+use Rattle.pac_script.specs.Script.{IsUnaccepted}
 use Rattle.pac_main.specs.Streams.{Observed, ObservedDevices, AnyFaulted, IsReported, IsOneOf}
 use Rattle.pac_main.specs.Stop.{line_of, not_empty_line}
 
@@ -21,8 +21,8 @@ IsAcceptedInput input = (text : List ℕ) × IsStoreText text input
 
 -- no store can be made of the text, for this cause and for no other
 pub record IsNoStoreText (text : List ℕ) (fault : ScriptFault) : Type 0 where
-  pub is : IsUnexplained text fault
-  pub only : (other : ScriptFault) → IsUnexplained text other → other ≡ fault
+  pub is : IsUnaccepted text fault
+  pub only : (other : ScriptFault) → IsUnaccepted text other → other ≡ fault
   pub none : (catalogue : CatalogueState) → IsAccepted text catalogue → ⊥
 
 -- none can be made of the input, for this cause, where the source's bytes are known

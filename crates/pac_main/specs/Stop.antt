@@ -21,6 +21,8 @@ use Rattle.pac_check.specs.declared.info.SlotName.{SlotName}
 use Rattle.pac_check.specs.declared.info.SlotName.TheVariants.{A, B}
 use Rattle.pac_recover.specs.declared.errors.Damage.{Damage}
 use Rattle.pac_recover.specs.declared.errors.Damage.TheVariants.{Log, Slot}
+use Rattle.pac_recover.specs.declared.errors.LoadError.{LoadError}
+use Rattle.pac_recover.specs.declared.errors.LoadError.TheVariants as load
 use Rattle.pac_recover.specs.declared.errors.RecoverError.{RecoverError}
 use Rattle.pac_recover.specs.declared.errors.RecoverError.TheVariants as recover
 use Rattle.pac_recover.specs.declared.limit.TooManyRows.{TooManyRows}
@@ -158,21 +160,22 @@ stop_of_make make.NoMemory = NoMemory
 abbrev pub stop_of_excess : TooManyRows → Stop
 stop_of_excess excess = RowsOver excess.table excess.rows excess.limit
 
--- a store that isn't recovered stops with its cause
+-- a store that isn't read stops with its cause
+abbrev pub stop_of_load : LoadError → Stop
+stop_of_load load.NoStore = NoStore
+stop_of_load (load.Damaged damage) = Damaged damage
+stop_of_load load.DiskFault = DiskFault
+stop_of_load load.NoMemory = NoMemory
+
+-- and so does one that isn't recovered
 abbrev pub stop_of_recover : RecoverError → Stop
-stop_of_recover recover.NoStore = NoStore
-stop_of_recover (recover.Damaged damage) = Damaged damage
+stop_of_recover (recover.Load cause) = stop_of_load cause
 stop_of_recover (recover.AbortInLog note) = Aborted note
 stop_of_recover (recover.RowsOver name rows limit) = RowsOver name rows limit
-stop_of_recover recover.DiskFault = DiskFault
-stop_of_recover recover.NoMemory = NoMemory
 
 -- a run that stops before its end does so with its cause
 abbrev pub stop_of_run : RunStop → Stop
-stop_of_run run.NoStore = NoStore
-stop_of_run (run.Damaged damage) = Damaged damage
-stop_of_run (run.AbortInLog note) = Aborted note
-stop_of_run (run.RowsOver name rows limit) = RowsOver name rows limit
+stop_of_run (run.Opening error) = stop_of_recover error
 stop_of_run run.InputFault = InputFault
 stop_of_run run.OutputFault = OutputFault
 stop_of_run run.DiskFault = DiskFault

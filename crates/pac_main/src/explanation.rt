@@ -9,7 +9,8 @@ ghost use Rattle.pac_print.specs.Canonical.{canonical};
 ghost use Rattle.pac_syntax.specs.Reading.{IsTree};
 ghost use Rattle.pac_types.specs.Fits.{shape};
 ghost use Rattle.pac_types.specs.OperationLimits.{HasFewOperations};
-ghost use Rattle.pac_main.specs.Explained.{AreSlicesOf, IsExplanation, IsGraphText, IsTreeExplanation, IsUnexplained, IsUnexplainedTree};
+ghost use Rattle.pac_main.specs.Explained.{AreSlicesOf, IsExplanation, IsGraphText, IsTreeExplanation, IsUnexplainedTree};
+ghost use Rattle.pac_script.specs.Script.{IsUnaccepted};
 ghost use Rattle.pac_script.specs.ScriptReading.{IsExcessFault};
 ghost use Rattle.pac_script.specs.declared.script_fault.ScriptFault.{ScriptFault as AFault};
 
@@ -33,7 +34,7 @@ use std::alloc::Global;
 /// `Fault` where the text has no catalogue, or one with too many operations; it is never `Line`.
 pub fn explain(alloc: Global, with_text: bool, text: &[u8]) -> Result<Vec<u8>, ScriptError>
     ensures ok { IfOk result (λ written. IsExplanation with_text text.now written.items) }
-    ensures fault { (fault : AFault) → IsErrOf result (error.Fault fault) → IsUnexplained text.now fault }
+    ensures fault { (fault : AFault) → IsErrOf result (error.Fault fault) → IsUnaccepted text.now fault }
 {
     match parse_catalogue(alloc, text) {
         Ok(tree) => explain_tree(alloc, with_text, tree),

@@ -1,6 +1,5 @@
 // The command `init`.
 ghost use Rattle.std.specs.Prelude.{◌≡◌, ◌≢◌, ◌↔◌, ◌∷◌, [], IfOk, IfErr, OnOk, IsErrOf, ◌+◌};
-ghost use Rattle.pac_base.specs.declared.refusal.Refusal.TheVariants as error;
 ghost use Rattle.pac_outside.specs.Content.{GaveAtMost};
 ghost use Rattle.pac_outside.specs.Devices.{each};
 ghost use Rattle.pac_syntax.specs.declared.limits.TheConstants.{MAX_CATALOGUE};
@@ -8,40 +7,21 @@ ghost use Rattle.pac_types.specs.Typing.{CatalogueState};
 ghost use Rattle.pac_types.specs.Accepted.{IsAccepted};
 ghost use Rattle.pac_main.specs.Causes.{GivesNoText, InitStops};
 ghost use Rattle.pac_main.specs.Commands.{IsInit};
-ghost use Rattle.pac_main.specs.Explained.{IsUnexplained};
 ghost use Rattle.pac_main.specs.Init.{InitEnds, IsStoreOf, IsStoreText};
 ghost use Rattle.pac_main.specs.Stop.{status_of, line_of};
 ghost use Rattle.pac_main.specs.Streams.{IsOneOf, IsReported, observed, observed_devices};
 ghost use Rattle.pac_main.specs.declared.stop.Stop.{Stop as AStop};
-ghost use Rattle.pac_script.specs.declared.script_fault.ScriptFault.{ScriptFault as AFault};
 
 use crate::input::InputError;
 use crate::reporting::{ArgumentsError, refuse_arguments, report};
 use crate::stop::Stop;
 use pac_arguments::{Command, parse_args};
-use pac_base::{NoMemory, Refusal};
-use pac_flat::test_operations;
+use pac_base::NoMemory;
 use pac_outside::{Devices, Disk, Sink, Source, read_up_to};
-use pac_script::{ScriptError, ScriptFault, excess_fault};
+use pac_script::read_accepted;
 use pac_store::make_store;
 use pac_syntax::MAX_CATALOGUE;
-use pac_types::read_catalogue;
 use std::alloc::Global;
-
-// That a store can be made of a catalogue's text.
-fn test_text(alloc: Global, text: &[u8]) -> Result<(), ScriptError>
-    ensures ok { OnOk result ((catalogue : CatalogueState) × IsAccepted text.now catalogue) }
-    ensures fault { (fault : AFault) → IsErrOf result (error.Fault fault) → IsUnexplained text.now fault }
-{
-    match read_catalogue(alloc, text) {
-        Ok(catalogue) => match test_operations(&catalogue) {
-            Ok(()) => Ok(()),
-            Err(excess) => Err(Refusal::Fault(excess_fault(&catalogue, excess))),
-        },
-        Err(Refusal::Fault(fault)) => Err(Refusal::Fault(ScriptFault::Catalogue(fault))),
-        Err(Refusal::NoMemory) => Err(Refusal::NoMemory),
-    }
-}
 
 // The text that the source holds, of which a store can be made.
 fn read_text<I: Source>(alloc: Global, input: &mut I) -> Result<Vec<u8>, InputError>
@@ -51,7 +31,7 @@ fn read_text<I: Source>(alloc: Global, input: &mut I) -> Result<Vec<u8>, InputEr
     ensures taken { GaveAtMost (MAX_CATALOGUE + 1) (I.left input.old) (I.left input.new) }
 {
     let text = read_up_to(alloc, input, MAX_CATALOGUE)?;
-    test_text(alloc, &text)?;
+    read_accepted(alloc, &text)?;
     Ok(text)
 }
 

@@ -1,13 +1,13 @@
 // Why a command stops before its end.
 ghost use Rattle.std.specs.Prelude.{◌≡◌};
-ghost use Rattle.pac_main.specs.Stop.{status_of, takes_memory, stop_of_excess, stop_of_input, stop_of_make, stop_of_recover, stop_of_run, stop_of_serial};
+ghost use Rattle.pac_main.specs.Stop.{status_of, takes_memory, stop_of_excess, stop_of_input, stop_of_load, stop_of_make, stop_of_recover, stop_of_run, stop_of_serial};
 ghost use Rattle.pac_main.specs.declared.stop.Stop.TheVariants.{OutputFault, NoMemory as OutOfMemory};
 
 use crate::input::InputError;
 use pac_base::NoMemory;
 use pac_ops::Note;
 use pac_outside::Failed;
-use pac_recover::{Damage, RecoverError, TooManyRows};
+use pac_recover::{Damage, LoadError, RecoverError, TooManyRows};
 use pac_run::RunStop;
 use pac_script::ScriptFault;
 use pac_serial::AllError;
@@ -113,21 +113,31 @@ impl From<TooManyRows> for Stop {
     }
 }
 
+impl From<LoadError> for Stop {
+    ghost from_gives = { λ cause stop. stop ≡ stop_of_load cause };
+
+    fn from(cause: LoadError) -> Self {
+        match cause {
+            LoadError::NoStore => Stop::NoStore,
+            LoadError::Damaged(damage) => Stop::Damaged(damage),
+            LoadError::DiskFault => Stop::DiskFault,
+            LoadError::NoMemory => Stop::NoMemory,
+        }
+    }
+}
+
 impl From<RecoverError> for Stop {
     ghost from_gives = { λ error stop. stop ≡ stop_of_recover error };
 
     fn from(error: RecoverError) -> Self {
         match error {
-            RecoverError::NoStore => Stop::NoStore,
-            RecoverError::Damaged(damage) => Stop::Damaged(damage),
+            RecoverError::Load(cause) => Stop::from(cause),
             RecoverError::AbortInLog(note) => Stop::Aborted(note),
             RecoverError::RowsOver { table, rows, limit } => Stop::RowsOver {
                 name: table,
                 rows,
                 limit,
             },
-            RecoverError::DiskFault => Stop::DiskFault,
-            RecoverError::NoMemory => Stop::NoMemory,
         }
     }
 }
@@ -137,14 +147,7 @@ impl From<RunStop> for Stop {
 
     fn from(why: RunStop) -> Self {
         match why {
-            RunStop::NoStore => Stop::NoStore,
-            RunStop::Damaged(damage) => Stop::Damaged(damage),
-            RunStop::AbortInLog(note) => Stop::Aborted(note),
-            RunStop::RowsOver { table, rows, limit } => Stop::RowsOver {
-                name: table,
-                rows,
-                limit,
-            },
+            RunStop::Opening(error) => Stop::from(error),
             RunStop::InputFault => Stop::InputFault,
             RunStop::OutputFault => Stop::OutputFault,
             RunStop::DiskFault => Stop::DiskFault,

@@ -1,6 +1,6 @@
 -- With what the execution of what is stored ends, beside the slots.
 use Rattle.std.proofs.Common.{◌≡◌, ◌∙◌, inl, ℕ, ◌≤◌, ◌+◌, List, [], length, drop, Option, Some, None, Result, Ok, Err, refl, sym, ap, subst, arith}
-use Rattle.std.specs.Prelude.{IfOk}
+use Rattle.std.specs.Prelude.{IfErr, IfOk}
 use Rattle.std.proofs.lemmas.List.{length-drop}
 use Rattle.pac_value.specs.State.{Tables}
 use Rattle.pac_ops.specs.declared.batch.Batch.{Batch}
@@ -38,10 +38,12 @@ use Rattle.pac_recover.specs.Limits.{IsFirstOver}
 use Rattle.pac_recover.specs.Loading.{AreNewestOf, IsInfoAmong}
 use Rattle.pac_recover.specs.Logs.{HoldsLogUpTo, ReadsTo}
 use Rattle.pac_recover.specs.Outcomes.{outcome_of}
+use Rattle.pac_recover.specs.Refusals.{AreRefused}
 use Rattle.pac_recover.specs.Recovering.{AbortsIn, IsOverIn, IsRecoveredFrom}
 use Rattle.pac_recover.specs.Replays.{IsReplayOf}
 use Rattle.pac_recover.proofs.LoadLemmas.{damaged-at-gates, known-weaker, newest-among, placed}
 use Rattle.pac_recover.proofs.SlotLemmas.{misplaced-here, same-damage}
+use Rattle.pac_recover.proofs.RefusalLemmas.{as-refused}
 
 -- ---- a log that was executed, beside slots
 
@@ -214,21 +216,12 @@ module _ (catalogue : CatalogueState) (outcome : Result Tables Note) (total : �
 
   -- what is answered of an execution that stops, and of tables over the limit
 
-  module _ {A : Type 0} (result : Result A RecoverError) (answer : RecoverError) (is : result ≡ Err answer) where
-    pub stopped-aborts : (note : Note) → answer ≡ recover.AbortInLog note → outcome ≡ Err note → (other : Note) → result ≡ Err (recover.AbortInLog other) → IfReadKnown (AbortsIn other) log a b
-    stopped-aborts note same stops other e =
-        let one : note ≡ other = cc in
-        subst (λ (n : Note). IfReadKnown (AbortsIn n) log a b) one (ended-aborts note stops)
+  module _ {A : Type 0} (limit : ℕ) (result : Result A RecoverError) (answer : RecoverError) (is : result ≡ Err answer) where
+    abbrev Refused : Type 0
+    Refused = IfErr result (AreRefused limit (record { log = log; slot_a = a; slot_b = b }))
 
-    pub stopped-within : (note : Note) → answer ≡ recover.AbortInLog note → (table : List ℕ) (rows most : ℕ) → result ≡ Err (recover.RowsOver table rows most) → ⊥
-    stopped-within note same table rows most e = cc
+    pub stopped-refused : (note : Note) → answer ≡ recover.AbortInLog note → outcome ≡ Err note → Refused
+    stopped-refused note same stops = as-refused limit (record { log = log; slot_a = a; slot_b = b }) result answer (recover.AbortInLog note) is same (ended-aborts note stops)
 
-    pub over-limit : (limit : ℕ) (name : List ℕ) (count top : ℕ) → answer ≡ recover.RowsOver name count top → top ≡ limit → (held : Tables) → outcome ≡ Ok held → IsFirstOver limit catalogue.tables held name count
-        → (table : List ℕ) (rows most : ℕ) → result ≡ Err (recover.RowsOver table rows most) → (most ≡ limit) × IfReadKnown (IsOverIn table rows limit) log a b
-    over-limit limit name count top same at held done over table rows most e =
-        let one : name ≡ table = cc in
-        let two : count ≡ rows = cc in
-        let three : top ≡ most = cc in (
-          sym three ∙ at,
-          subst (λ (n : List ℕ). IfReadKnown (IsOverIn n rows limit) log a b) one (subst (λ (n : ℕ). IfReadKnown (IsOverIn name n limit) log a b) two (ended-over held name count limit done over)),
-        )
+    pub over-refused : (name : List ℕ) (count top : ℕ) → answer ≡ recover.RowsOver name count top → top ≡ limit → (held : Tables) → outcome ≡ Ok held → IsFirstOver limit catalogue.tables held name count → Refused
+    over-refused name count top same at held done over = as-refused limit (record { log = log; slot_a = a; slot_b = b }) result answer (recover.RowsOver name count top) is same (at, ended-over held name count limit done over)

@@ -29,7 +29,7 @@ use Rattle.pac_recover.specs.declared.log_feed.FeedEnd.{FeedEnd}
 use Rattle.pac_recover.specs.declared.log_feed.FeedEnd.TheVariants.{Window, End, Refused}
 use Rattle.pac_recover.specs.FedLogs.{AreBodiesCounted, AreCounted, EndsAs, FillsAs, IsGivenOfLog, IsPartOf, bodies_len}
 use Rattle.pac_recover.specs.Gates.{txns_by_batch}
-use Rattle.pac_recover.proofs.WindowLemmas.{Fills, ReportsAgain, fills-more, fills-nothing, fills-whole, holds-mid, none-first, ok-same, window-more, window-nothing}
+use Rattle.pac_recover.proofs.WindowLemmas.{Fills, ReportsAgain, fills-more, fills-whole, holds-mid, none-first, ok-same, window-more}
 
 -- ---- transactions that fit a catalogue fit the types of its programs and tables
 
@@ -81,16 +81,6 @@ module _ (from mid : NextGate) (given : List Batch) (text : List ℕ) (before af
       let says = again text (before ++ txns_by_batch given) f.rest (holds-mid text from.catalogue before after from mid mid given same h holds f) f.there in
       record { split = f.split ∙ ap (λ (l : List (List Txn)). txns_by_batch given ++ l) (none-first f.rest (ok-same (first_batch f.rest) None says)); there = f.there }
 
--- ---- nothing is given
-
-pub gives-nothing : (known : Option DiskHistory) (gate : NextGate) (end : Option FeedEnd) → IsGivenOfLog known known gate gate [] end end
-gives-nothing known gate end = record {
-  same = refl;
-  read = window-nothing gate;
-  part = λ text before after. filled gate gate [] text before after known (fills-nothing text gate.catalogue before after gate [] known refl);
-  ends = λ none. subst (EndsAs known gate gate []) (sym none) tt;
-}
-
 -- ---- it goes on
 
 module _ (known now next : Option DiskHistory) (from mid new : NextGate) (given : List Batch) (first : Option FeedEnd) (is : IsGivenOfLog known now from mid given first None) (same : next ≡ now) where
@@ -114,10 +104,6 @@ module _ (known now next : Option DiskHistory) (from mid new : NextGate) (given 
   stays : new ≡ mid → (end : FeedEnd) → EndsAs known from mid given (Some end) → IsGivenOfLog known next from new given first (Some end)
   stays there end ends = subst (λ (g : NextGate). IsGivenOfLog known next from g given first (Some end)) (sym there) (record { same = still; read = is.read; part = is.part; ends = λ none. ends })
 
-  -- the window is full
-  pub ends-full : new ≡ mid → IsGivenOfLog known next from new given first (Some Window)
-  ends-full there = stays there Window tt
-
   -- the log ends
   pub ends-all : new ≡ mid → ReportsAgain mid (Ok None) now → IsGivenOfLog known next from new given first (Some End)
   ends-all there again = stays there End (λ text before after. filled-all from mid given text before after known is.read.catalogue (so-far text before after) (subst (ReportsAgain mid (Ok None)) is.same again))
@@ -138,17 +124,10 @@ bodies-push : (given : List Batch) (batch : Batch) → bodies_len (given ++ batc
 bodies-push [] batch = omega arith
 bodies-push (b ∷ given) batch = omega (arith, bodies-push given batch)
 
-pub bodies-nothing : (missing : ℕ) (end : Option FeedEnd) → AreBodiesCounted missing missing [] end end
-bodies-nothing missing end = record { counted = omega arith; ends = λ none. subst (FillsAs missing 0) (sym none) tt }
-
 module _ (missing mid : ℕ) (given : List Batch) (first : Option FeedEnd) (is : AreBodiesCounted missing mid given first None) where
   -- one body more
   pub bodies-more : (batch : Batch) (left : ℕ) → left ≡ mid - length (body_bytes batch.txns) → AreBodiesCounted missing left (given ++ batch ∷ []) first None
   bodies-more batch left less = record { counted = omega (arith, is.counted, less, bodies-push given batch); ends = λ none. tt }
-
-  -- none is missing
-  pub bodies-full : mid ≡ 0 → AreBodiesCounted missing mid given first (Some Window)
-  bodies-full none = record { counted = is.counted; ends = λ begins. omega (arith, is.counted, none) }
 
   -- some are missing, and it ends for another cause
   pub bodies-end : 1 ≤ mid → (end : FeedEnd) → (end ≡ Window → ⊥) → AreBodiesCounted missing mid given first (Some end)

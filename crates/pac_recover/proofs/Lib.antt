@@ -2,10 +2,10 @@ pub mod CauseLemmas
 pub mod OverLemmas
 pub mod GateLemmas
 pub mod ReadLemmas
+pub mod RefusalLemmas
 pub mod SlotLemmas
 pub mod LoadLemmas
 pub mod StandsLemmas
-pub mod ReportLemmas
 pub mod BatchLemmas
 pub mod WorkerLemmas
 pub mod ReplayLemmas

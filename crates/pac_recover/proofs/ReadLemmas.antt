@@ -26,9 +26,6 @@ all-push P (y ∷ xs) x all one = (all.0, all-push P xs x all.1 one)
 
 -- ---- what is read on every device
 
-pub nothing-read : (gate : NextGate) → IsReadUpTo gate gate [] (place_of gate ∷ [])
-nothing-read gate = record { catalogue = refl; runs = tt; fit = tt; are = refl; last = refl }
-
 pub one-more-read : (old mid new : NextGate) (bs : List Batch) (gs : List GatePlace) (batch : Batch) → IsReadUpTo old mid bs gs → IsNextBatch mid new batch → All (TxnFits mid.catalogue) batch.txns
     → IsReadUpTo old new (bs ++ batch ∷ []) (gs ++ place_of new ∷ [])
 one-more-read old mid new bs gs batch read next fits =
@@ -92,10 +89,6 @@ reads-damage text old mid new bs at kind (Some h) so_far knows = λ stands. reco
   batches = txns_by_batch bs;
   damage = knows text (txns_by_batch bs) (so_far stands);
 }
-
-pub reads-nothing : (text : List ℕ) (gate : NextGate) (known : Option DiskHistory) → IfKnown (λ h. ReadsAfter text gate gate [] h.now.seen) known
-reads-nothing text gate None = tt
-reads-nothing text gate (Some h) = λ stands. stands
 
 -- damage after a first gate is damage of the log that begins there
 pub damage-after : (first : NextGate) (at : ℕ) (kind : DamageKind) (known now : Option DiskHistory) → now ≡ known → IfKnown (λ h. (text : List ℕ) × IsStore text first.catalogue h.now.seen × StandsAfter text [] first h.now.seen) known

@@ -50,17 +50,6 @@ none-push [] wanted place none other (suc n) e = absurd cc
 none-push (g ∷ gates) wanted place none other zero e = none zero e
 none-push (g ∷ gates) wanted place none other (suc n) e = none-push gates wanted place (λ k. none (suc k)) other n e
 
-pub skips-nothing : (text : List ℕ) (wanted : GatePlace) (gate : NextGate) (gates : List GatePlace) (known : Option DiskHistory) → gates ≡ []
-    → IfKnown (λ h. StandsAfter text [] gate h.now.seen → IsSkipping text wanted gate gates h.now.seen) known
-skips-nothing text wanted gate gates None none = tt
-skips-nothing text wanted gate gates (Some h) none = λ stands.
-    subst (λ (l : List GatePlace). IsSkipping text wanted gate l h.now.seen) (sym none) (record {
-      batches = [];
-      stands = stands;
-      are = ap (λ (g : GatePlace). g ∷ []) (first-gate text gate stands.after);
-      absent = λ n e. absurd cc;
-    })
-
 module _ (text : List ℕ) (wanted : GatePlace) (old mid new : NextGate) (gates pushed : List GatePlace) (place : GatePlace) (pushes : pushed ≡ gates ++ place ∷ []) (placed : place ≡ place_of mid) where
   reached : (h : DiskHistory) (s : IsSkipping text wanted mid gates h.now.seen) → HasGatesTo text s.batches mid pushed h.now.seen
   reached h s = record { stands = s.stands; are = pushes ∙ ap (λ (p : GatePlace). gates ++ p ∷ []) placed ∙ s.are }

@@ -29,7 +29,6 @@ use Rattle.pac_recover.specs.declared.errors.Damage.{Damage}
 use Rattle.pac_recover.specs.declared.errors.LoadError.{LoadError}
 use Rattle.pac_recover.specs.declared.errors.LoadError.TheVariants as load
 use Rattle.pac_recover.specs.declared.errors.RecoverError.TheVariants as recover
-use Rattle.pac_recover.specs.Causes.{not_loaded}
 use Rattle.pac_recover.specs.Damages.{IsAmongGates, IsDamagedSlot, IsSlotDamage}
 use Rattle.pac_recover.specs.Ends.{EndsSo}
 use Rattle.pac_recover.specs.Loading.{AreNewestOf, IsInfoAmong}
@@ -138,26 +137,6 @@ scanned-ends scanned outcome images same number is executed =
       outcome_is = ap (λ (n : ℕ). serial scanned.catalogue.procs (n + 1) (drop n (all_txns is.log.batches)) scanned.tables.rows) number ∙ sym executed;
       counted = omega (arith, is.log.counted, within, length-drop scanned.txns (all_txns is.log.batches));
     }
-
--- why nothing is recovered where nothing is executed
-pub load-cause : (cause : LoadError) (damage : Damage) → not_loaded cause ≡ recover.Damaged damage → cause ≡ load.Damaged damage
-load-cause load.NoStore damage e = absurd cc
-load-cause (load.Damaged other) damage e = cc
-load-cause load.DiskFault damage e = absurd cc
-load-cause load.NoMemory damage e = absurd cc
-
--- no abort is among these, and no table over the limit
-pub load-no-abort : (cause : LoadError) (note : Note) → not_loaded cause ≡ recover.AbortInLog note → ⊥
-load-no-abort load.NoStore note e = cc
-load-no-abort (load.Damaged other) note e = cc
-load-no-abort load.DiskFault note e = cc
-load-no-abort load.NoMemory note e = cc
-
-pub load-no-rows : (cause : LoadError) (table : List ℕ) (rows limit : ℕ) → not_loaded cause ≡ recover.RowsOver table rows limit → ⊥
-load-no-rows load.NoStore table rows limit e = cc
-load-no-rows (load.Damaged other) table rows limit e = cc
-load-no-rows load.DiskFault table rows limit e = cc
-load-no-rows load.NoMemory table rows limit e = cc
 
 -- the second reading finds no damage in the log that the first read
 pub never-log : (gate : NextGate) (total : ℕ) (P : DiskHistory → Type 0) (known now : Option DiskHistory) → now ≡ known → IfKnown (λ h. HoldsLogFrom gate total h.now.seen) known

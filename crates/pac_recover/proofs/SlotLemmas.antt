@@ -50,13 +50,6 @@ broken gates tables name at kind None b fault first = tt
 broken gates tables name at kind (Some x) None fault first = tt
 broken gates tables name at kind (Some x) (Some y) fault first = inl (broken-slot tables name at kind (Some x) (Some y) fault first)
 
--- slots that are whole are not broken
-pub whole-broken : (tables : List Table) (name : SlotName) (at : ℕ) (kind : SlotDamageKind) (a b : Option DiskHistory) → IfKnown (λ x. IfKnown (λ y. ⊥) b) a
-    → IfKnown (λ x. IfKnown (λ y. IsBrokenSlot tables name (slot_fault kind at) x.now.seen y.now.seen) b) a
-whole-broken tables name at kind None b none = tt
-whole-broken tables name at kind (Some x) None none = tt
-whole-broken tables name at kind (Some x) (Some y) none = absurd none
-
 -- ---- the offset of a slot
 
 abbrev slot_in : SlotName → Option SlotInfo → SlotName

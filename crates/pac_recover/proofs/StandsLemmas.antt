@@ -1,6 +1,6 @@
 -- Where the devices stand for a history, nothing is damaged, and the tables are those of a prefix of it.
 use Rattle.std.proofs.Common.{◌≡◌, ◌∙◌, inl, inr, ℕ, ◌≤◌, ◌+◌, List, ◌∷◌, ◌++◌, length, take, Option, Some, None, Result, Ok, Err, refl, sym, ap, subst, append_assoc}
-use Rattle.std.specs.Prelude.{IfOk, IsErrOf}
+use Rattle.std.specs.Prelude.{IfErr, IfOk}
 use Rattle.pac_value.specs.State.{Tables}
 use Rattle.pac_ops.specs.declared.note.Note.{Note}
 use Rattle.pac_ops.specs.declared.transaction.Txn.{Txn}
@@ -24,11 +24,13 @@ use Rattle.pac_store.specs.Images.{Images, IfReadKnown}
 use Rattle.pac_store.specs.Stands.{EndsWith, StandsFor}
 use Rattle.pac_store.proofs.StandsLemmas.{few-tables, goes-on, readable, IsReadable}
 use Rattle.pac_recover.specs.declared.errors.Damage.TheVariants.{Log, Slot}
+use Rattle.pac_recover.specs.declared.errors.LoadError.TheVariants as load
 use Rattle.pac_recover.specs.declared.errors.RecoverError.{RecoverError}
 use Rattle.pac_recover.specs.declared.errors.RecoverError.TheVariants as error
 use Rattle.pac_recover.specs.declared.recovery.Recovered.{Recovered}
 use Rattle.pac_recover.specs.Damages.{IsAtGate, IsDamagedLog, IsDamagedSlot, IsMisplacedSlot, IsSlotDamage}
 use Rattle.pac_recover.specs.Limits.{IsFirstOver}
+use Rattle.pac_recover.specs.Refusals.{AreRefused}
 use Rattle.pac_recover.specs.Recovering.{AbortsIn, IsRecoveredPrefix, IsPrefixOverLimit, IsOverIn, IsRecoveredFrom, Recovers}
 
 -- ---- no damage
@@ -129,34 +131,26 @@ module _ (text : List ℕ) (catalogue : CatalogueState) (history : List Txn) (le
 
 -- ---- over what is known of the devices
 
--- what is reported of each answer
-pub record ReportsAnswer (limit : ℕ) (result : Result Recovered RecoverError) (log a b : Option DiskHistory) : Type 0 where
-  pub recovered : IfOk result (λ recovered. IfReadKnown (IsRecoveredFrom recovered.catalogue recovered.tables.rows recovered.txns) log a b)
-  pub no_store : IsErrOf result error.NoStore → IfKnown (λ h. (text : List ℕ) (catalogue : CatalogueState) → IsStore text catalogue h.now.seen → ⊥) log
-  pub log_damage : (at : ℕ) (kind : DamageKind) → IsErrOf result (error.Damaged (Log at kind)) → IfKnown (λ h. IsDamagedLog at kind h.now.seen) log
-  pub slot_damage : (slot : SlotName) (at : ℕ) (kind : SlotDamageKind) → IsErrOf result (error.Damaged (Slot slot at kind)) → IfReadKnown (IsDamagedSlot slot at kind) log a b
-  pub abort : (note : Note) → IsErrOf result (error.AbortInLog note) → IfReadKnown (AbortsIn note) log a b
-  pub over : (table : List ℕ) (rows most : ℕ) → IsErrOf result (error.RowsOver table rows most) → (most ≡ limit) × IfReadKnown (IsOverIn table rows limit) log a b
-
 module _ (limit : ℕ) (l x y : DiskHistory) (text : List ℕ) (catalogue : CatalogueState) (history : List Txn) (least : ℕ) where
   abbrev images : Images
   images = record { log = l.now.seen; slot_a = x.now.seen; slot_b = y.now.seen }
 
-  recovers-here : (result : Result Recovered RecoverError) → ReportsAnswer limit result (Some l) (Some x) (Some y) → StandsFor text catalogue history least images → Recovers catalogue history least result
-  recovers-here (Ok recovered) knows is = recovers-prefix text catalogue history least images is recovered knows.recovered
-  recovers-here (Err error.NoStore) knows is = is-store text catalogue history least images is (knows.no_store refl)
-  recovers-here (Err (error.Damaged (Log at kind))) knows is = no-log-damage text catalogue history least images is at kind (knows.log_damage at kind refl)
-  recovers-here (Err (error.Damaged (Slot slot at kind))) knows is = no-slot-damage text catalogue history least images is slot at kind (knows.slot_damage slot at kind refl)
-  recovers-here (Err (error.AbortInLog note)) knows is = no-abort text catalogue history least images is note (knows.abort note refl)
-  recovers-here (Err (error.RowsOver table rows most)) knows is =
-      let over = knows.over table rows most refl in
-      subst (λ (n : ℕ). IsPrefixOverLimit catalogue history least table rows n) (sym over.0) (over-prefix text catalogue history least images is table rows limit over.1)
-  recovers-here (Err error.DiskFault) knows is = tt
-  recovers-here (Err error.NoMemory) knows is = tt
+  recovers-here : (result : Result Recovered RecoverError) → IfOk result (λ recovered. IfReadKnown (IsRecoveredFrom recovered.catalogue recovered.tables.rows recovered.txns) (Some l) (Some x) (Some y))
+      → IfErr result (AreRefused limit (record { log = Some l; slot_a = Some x; slot_b = Some y })) → StandsFor text catalogue history least images → Recovers catalogue history least result
+  recovers-here (Ok recovered) knows refused is = recovers-prefix text catalogue history least images is recovered knows
+  recovers-here (Err (error.Load load.NoStore)) knows refused is = is-store text catalogue history least images is refused
+  recovers-here (Err (error.Load (load.Damaged (Log at kind)))) knows refused is = no-log-damage text catalogue history least images is at kind refused
+  recovers-here (Err (error.Load (load.Damaged (Slot slot at kind)))) knows refused is = no-slot-damage text catalogue history least images is slot at kind refused
+  recovers-here (Err (error.Load load.DiskFault)) knows refused is = tt
+  recovers-here (Err (error.Load load.NoMemory)) knows refused is = tt
+  recovers-here (Err (error.AbortInLog note)) knows refused is = no-abort text catalogue history least images is note refused
+  recovers-here (Err (error.RowsOver table rows most)) knows refused is =
+      subst (λ (n : ℕ). IsPrefixOverLimit catalogue history least table rows n) (sym refused.0) (over-prefix text catalogue history least images is table rows limit refused.1)
 
-pub recovers : (limit : ℕ) (result : Result Recovered RecoverError) (log a b : Option DiskHistory) → ReportsAnswer limit result log a b → (text : List ℕ) (catalogue : CatalogueState) (history : List Txn) (least : ℕ)
+pub recovers : (limit : ℕ) (result : Result Recovered RecoverError) (log a b : Option DiskHistory) → IfOk result (λ recovered. IfReadKnown (IsRecoveredFrom recovered.catalogue recovered.tables.rows recovered.txns) log a b)
+    → IfErr result (AreRefused limit (record { log = log; slot_a = a; slot_b = b })) → (text : List ℕ) (catalogue : CatalogueState) (history : List Txn) (least : ℕ)
     → IfReadKnown (λ images. StandsFor text catalogue history least images → Recovers catalogue history least result) log a b
-recovers limit result None a b knows text catalogue history least = tt
-recovers limit result (Some l) None b knows text catalogue history least = tt
-recovers limit result (Some l) (Some x) None knows text catalogue history least = tt
-recovers limit result (Some l) (Some x) (Some y) knows text catalogue history least = recovers-here limit l x y text catalogue history least result knows
+recovers limit result None a b knows refused text catalogue history least = tt
+recovers limit result (Some l) None b knows refused text catalogue history least = tt
+recovers limit result (Some l) (Some x) None knows refused text catalogue history least = tt
+recovers limit result (Some l) (Some x) (Some y) knows refused text catalogue history least = recovers-here limit l x y text catalogue history least result knows refused

@@ -40,24 +40,6 @@ module _ (known now : Option DiskHistory) (old new : NextGate) (given : List Bat
   pub refused-damage : (at : ℕ) (kind : DamageKind) → refusal_of end ≡ Some (error.Damaged at kind) → OfKnownLog known old (λ text before after. ⊥)
   refused-damage at kind e = ends-so (error.Damaged at kind) e
 
-  -- never for want of a store
-  pub refused-store : refusal_of end ≡ Some error.NoStore → ⊥
-  refused-store e = ends-so error.NoStore e
-
--- for a call of the disk that failed, and it counts it
-pub refused-counted : (before now : ℕ) (end : Option FeedEnd) → AreCounted before now end → refusal_of end ≡ Some error.DiskFault → now ≡ one_more before
-refused-counted before now end counted e = subst (AreCounted before now) (refused-is end error.DiskFault e) counted
-
--- for anything else, or not at all: none is counted
-pub refused-quiet : (before now : ℕ) (end : Option FeedEnd) → AreCounted before now end → (refusal_of end ≡ Some error.DiskFault → ⊥) → now ≡ before
-refused-quiet before now None counted other = counted
-refused-quiet before now (Some Window) counted other = counted
-refused-quiet before now (Some End) counted other = counted
-refused-quiet before now (Some (Refused error.NoStore)) counted other = counted
-refused-quiet before now (Some (Refused (error.Damaged at kind))) counted other = counted
-refused-quiet before now (Some (Refused error.DiskFault)) counted other = absurd (other refl)
-refused-quiet before now (Some (Refused error.NoMemory)) counted other = counted
-
 -- ---- it was executed
 
 module _ {T : Type 0} (known now : Option DiskHistory) (procs : List Proc) (old new : NextGate) (base : Tables) (executed : Execution T) (batches : List Batch) (missing left : ℕ) (some : 1 ≤ missing) where

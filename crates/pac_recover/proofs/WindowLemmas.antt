@@ -37,9 +37,6 @@ none-first (t ∷ batches) e = absurd cc
 
 -- ---- a window on every device
 
-pub window-nothing : (gate : NextGate) → IsWindow gate gate []
-window-nothing gate = record { catalogue = refl; runs = tt; fit = tt; counted = omega arith; grows = omega arith }
-
 pub window-more : (old mid new : NextGate) (bs more : List Batch) (batch : Batch) → more ≡ bs ++ batch ∷ [] → IsWindow old mid bs → IsNextBatch mid new batch → All (TxnFits mid.catalogue) batch.txns → IsWindow old new more
 window-more old mid new bs more batch pushes w next fits = subst (λ (l : List Batch). IsWindow old new l) (sym pushes) (record {
   catalogue = ap (λ (g : NextGate). g.catalogue) next.gate ∙ w.catalogue;
@@ -74,14 +71,6 @@ Fills text catalogue before after old mid window h = HoldsLog text catalogue (be
 -- what the next answer says of a log that holds these batches
 abbrev pub ReportsAgain : NextGate → Result (Option Batch) LogError → Option DiskHistory → Type 0
 ReportsAgain gate result known = (text : List ℕ) (before after : List (List Txn)) → IfKnown (λ h. HoldsLog text gate.catalogue (before ++ after) h.now.seen → IsAfter text before gate → ReportsHeld result (Ok (first_batch after))) known
-
-pub fills-nothing : (text : List ℕ) (catalogue : CatalogueState) (before after : List (List Txn)) (old : NextGate) (window : List Batch) (known : Option DiskHistory) → window ≡ [] → IfKnown (Fills text catalogue before after old old window) known
-fills-nothing text catalogue before after old window None none = tt
-fills-nothing text catalogue before after old window (Some h) none = λ holds after_old. subst (λ (l : List Batch). IsFilling text before after l old) (sym none) (record {
-  rest = after;
-  split = refl;
-  there = subst (λ (l : List (List Txn)). IsAfter text l old) (sym (append-nil before)) after_old;
-})
 
 module _ (text : List ℕ) (catalogue : CatalogueState) (before after : List (List Txn)) (old mid new : NextGate) (window : List Batch) (same : mid.catalogue ≡ catalogue) where
   -- in the log the reader stands after what was read

@@ -80,13 +80,6 @@ module _ (cat : CatalogueState) (parts : PlanParts) (programs : parts.programs �
   fits-executed T held None count rows = fits-again held count rows
   fits-executed T held (Some note) count rows = tt
 
-  -- and those of the catalogue the plan
-  pub fits-plan : (held : Held) → FitsCatalogue cat held.tables held.rows → (held.tables ≡ length parts.tables) × RowsFit parts.tables held.rows
-  fits-plan held fits = (
-    fits.count ∙ sym (length-map cat.tables shape) ∙ ap (λ (l : List TableTypes). length l) (sym shapes),
-    subst (λ (l : List TableTypes). RowsFit l held.rows) (sym shapes) fits.rows,
-  )
-
 -- ---- what is executed
 
 -- what is replayed without a note is what serial execution ends with

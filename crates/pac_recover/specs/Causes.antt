@@ -6,8 +6,6 @@ use Rattle.pac_check.specs.declared.errors.SlotError.TheVariants as slot
 use Rattle.pac_recover.specs.declared.errors.Damage.TheVariants.{Log, Slot}
 use Rattle.pac_recover.specs.declared.errors.LoadError.{LoadError}
 use Rattle.pac_recover.specs.declared.errors.LoadError.TheVariants as load
-use Rattle.pac_recover.specs.declared.errors.RecoverError.{RecoverError}
-use Rattle.pac_recover.specs.declared.errors.RecoverError.TheVariants as recover
 
 -- why the log isn't read
 abbrev pub log_not_loaded : LogError → LoadError
@@ -21,10 +19,3 @@ abbrev pub slot_not_loaded : SlotError → LoadError
 slot_not_loaded slot.DiskFault = load.DiskFault
 slot_not_loaded (slot.Damaged name at kind) = load.Damaged (Slot name at kind)
 slot_not_loaded slot.NoMemory = load.NoMemory
-
--- why nothing is recovered where nothing is loaded
-abbrev pub not_loaded : LoadError → RecoverError
-not_loaded load.NoStore = recover.NoStore
-not_loaded (load.Damaged damage) = recover.Damaged damage
-not_loaded load.DiskFault = recover.DiskFault
-not_loaded load.NoMemory = recover.NoMemory

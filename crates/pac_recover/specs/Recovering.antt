@@ -8,6 +8,7 @@ use Rattle.pac_types.specs.Typing.{CatalogueState}
 use Rattle.pac_store.specs.Images.{Images}
 use Rattle.pac_store.specs.Stands.{EndsWith}
 use Rattle.pac_store.specs.Stored.{IsStored, Stored}
+use Rattle.pac_recover.specs.declared.errors.LoadError.TheVariants as load
 use Rattle.pac_recover.specs.declared.errors.RecoverError.{RecoverError}
 use Rattle.pac_recover.specs.declared.errors.RecoverError.TheVariants as error
 use Rattle.pac_recover.specs.Limits.{IsFirstOver}
@@ -59,9 +60,9 @@ pub record IsPrefixOverLimit (catalogue : CatalogueState) (history : List Txn) (
 -- nothing aborts.
 abbrev pub Recovers : CatalogueState → List Txn → ℕ → Result Recovered RecoverError → Type 0
 Recovers catalogue history least (Ok recovered) = IsRecoveredPrefix catalogue history least recovered
-Recovers catalogue history least (Err error.NoStore) = ⊥
-Recovers catalogue history least (Err (error.Damaged damage)) = ⊥
+Recovers catalogue history least (Err (error.Load load.NoStore)) = ⊥
+Recovers catalogue history least (Err (error.Load (load.Damaged damage))) = ⊥
+Recovers catalogue history least (Err (error.Load load.DiskFault)) = Unit {0}
+Recovers catalogue history least (Err (error.Load load.NoMemory)) = Unit {0}
 Recovers catalogue history least (Err (error.AbortInLog note)) = ⊥
 Recovers catalogue history least (Err (error.RowsOver table rows limit)) = IsPrefixOverLimit catalogue history least table rows limit
-Recovers catalogue history least (Err error.DiskFault) = Unit {0}
-Recovers catalogue history least (Err error.NoMemory) = Unit {0}

@@ -48,24 +48,15 @@ pub enum LoadError {
 /// Why the tables aren't recovered.
 #[derive(Clone, Copy, Debug, PartialEq, Eq, Error)]
 pub enum RecoverError {
-    /// The first device doesn't begin as a log does.
-    #[error("no store")]
-    NoStore,
-    /// This is the first damage, as [`LoadError::Damaged`].
-    #[error("damaged {0}")]
-    Damaged(Damage),
+    /// The store isn't read, or there was no memory for what is read or for the tables.
+    #[error("{0}")]
+    Load(LoadError),
     /// A stored transaction aborts.
     #[error("transaction {} aborts", .0.txn)]
     AbortInLog(Note),
     /// In the end a table has more rows than the limit: the first such one, by its name.
     #[error("a table has {rows} rows, over {limit}")]
     RowsOver { table: Name, rows: u64, limit: u64 },
-    /// A call of a device failed.
-    #[error("a device failed")]
-    DiskFault,
-    /// There was no memory for what is read, or for the tables.
-    #[error("out of memory")]
-    NoMemory,
 }
 
 impl From<LogError> for LoadError {
@@ -120,17 +111,12 @@ impl From<AllocError> for LoadError {
 }
 
 impl From<LoadError> for RecoverError {
-    ghost use Rattle.pac_recover.specs.Causes.{not_loaded};
+    ghost use Rattle.pac_recover.specs.declared.errors.RecoverError.{RecoverError};
 
-    ghost from_gives = { λ cause error. error ≡ not_loaded cause };
+    ghost from_gives = { λ cause error. error ≡ RecoverError.Load cause };
 
     fn from(cause: LoadError) -> Self {
-        match cause {
-            LoadError::NoStore => RecoverError::NoStore,
-            LoadError::Damaged(damage) => RecoverError::Damaged(damage),
-            LoadError::DiskFault => RecoverError::DiskFault,
-            LoadError::NoMemory => RecoverError::NoMemory,
-        }
+        RecoverError::Load(cause)
     }
 }
 

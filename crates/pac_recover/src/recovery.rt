@@ -1,23 +1,18 @@
 // Recovers the tables of a store.
-ghost use Rattle.std.specs.Prelude.{◌≡◌, ◌≤◌, ◌+◌, ℕ, List, IfOk, IsErrOf, None, length};
+ghost use Rattle.std.specs.Prelude.{◌≡◌, ◌≤◌, ◌+◌, ℕ, List, IfErr, IfOk, IsErrOf, None, length};
 ghost use Rattle.pac_outside.specs.Devices.{OneFaulted, each};
-ghost use Rattle.pac_ops.specs.declared.note.Note.{Note as ANote};
 ghost use Rattle.pac_ops.specs.declared.transaction.Txn.{Txn as ATxn};
 ghost use Rattle.pac_types.specs.Execution.{first_over};
 ghost use Rattle.pac_types.specs.Fits.{FitsCatalogue};
 ghost use Rattle.pac_types.specs.Typing.{CatalogueState};
-ghost use Rattle.pac_log.specs.declared.damage.DamageKind.{DamageKind as ALogDamage};
-ghost use Rattle.pac_check.specs.declared.damage.SlotDamageKind.{SlotDamageKind as ASlotDamage};
-ghost use Rattle.pac_check.specs.declared.info.SlotName.{SlotName as ASlotName};
 ghost use Rattle.pac_store.specs.Images.{IfReadKnown};
 ghost use Rattle.pac_store.specs.Stands.{StandsFor};
-ghost use Rattle.pac_recover.specs.declared.errors.Damage.TheVariants.{Log as InLog, Slot as InSlot};
-ghost use Rattle.pac_recover.specs.Recovering.{AbortsIn, IsOverIn, IsRecoveredFrom, Recovers};
-ghost use Rattle.pac_recover.specs.Refusals.{HasDamage, HasNoStore, IfImagesKnown};
+ghost use Rattle.pac_recover.specs.Recovering.{IsRecoveredFrom, Recovers};
+ghost use Rattle.pac_recover.specs.Refusals.{AreRefused};
 
 use crate::execution::tables_of;
 use crate::rereading::replay_scanned;
-use crate::{RecoverError, Scanned, scan, test_rows};
+use crate::{LoadError, RecoverError, Scanned, scan, test_rows};
 use pac_outside::{Devices, Disk, Gate};
 use pac_tables::HashedRows;
 use pac_types::Catalogue;
@@ -46,11 +41,10 @@ pub struct Recovered {
 ///
 /// # Errors
 ///
-/// - Those of [`load`](crate::load), in its order.
+/// - [`RecoverError::Load`] with those of [`load`](crate::load), in its order; with `NoMemory` also where there was none for the tables.
 /// - [`RecoverError::AbortInLog`] exactly where serial execution of the stored transactions stops, with the transaction that
 ///   aborts.
 /// - [`RecoverError::RowsOver`] exactly where the tables then have more rows than the limit: the first such table.
-/// - [`RecoverError::NoMemory`] where there was no memory for the tables.
 pub fn recover<D: Disk, H: Threads + Wait + Sync, G: Gate + Sync>(
     rt: &H,
     alloc: Global,
@@ -65,19 +59,15 @@ pub fn recover<D: Disk, H: Threads + Wait + Sync, G: Gate + Sync>(
     ensures recovered { IfOk result (λ recovered. IfReadKnown (IsRecoveredFrom recovered.catalogue recovered.tables.rows recovered.txns) (D.known devices.old.log) (D.known devices.old.slot_a) (D.known devices.old.slot_b)) }
     ensures within { IfOk result (λ recovered. first_over limit (length recovered.catalogue.tables) recovered.tables.rows ≡ None) }
     ensures fits { IfOk result (λ recovered. FitsCatalogue recovered.catalogue recovered.tables.tables recovered.tables.rows) }
-    ensures no_store { IsErrOf result RecoverError.NoStore → HasNoStore (each D.known devices.old) }
-    ensures log_damage { (at : ℕ) (kind : ALogDamage) → IsErrOf result (RecoverError.Damaged (InLog at kind)) → HasDamage (InLog at kind) (each D.known devices.old) }
-    ensures slot_damage { (slot : ASlotName) (at : ℕ) (kind : ASlotDamage) → IsErrOf result (RecoverError.Damaged (InSlot slot at kind)) → HasDamage (InSlot slot at kind) (each D.known devices.old) }
-    ensures abort { (note : ANote) → IsErrOf result (RecoverError.AbortInLog note) → IfImagesKnown (AbortsIn note) (each D.known devices.old) }
-    ensures over { (table : List ℕ) (rows most : ℕ) → IsErrOf result (RecoverError.RowsOver table rows most) → (most ≡ limit) × IfImagesKnown (IsOverIn table rows limit) (each D.known devices.old) }
+    ensures refused { IfErr result (AreRefused limit (each D.known devices.old)) }
 
     // Where the devices stand for a history, it is a prefix of it that is recovered.
     ensures stands { (text : List ℕ) (catalogue : CatalogueState) (history : List ATxn) (least : ℕ) → IfReadKnown (λ images. StandsFor text catalogue history least images → Recovers catalogue history least result) (D.known devices.old.log) (D.known devices.old.slot_a) (D.known devices.old.slot_b) }
 
     // The devices are only read, and no call of one comes after one that failed.
     ensures same { each D.known devices.new ≡ each D.known devices.old }
-    ensures disk_fault { IsErrOf result RecoverError.DiskFault → OneFaulted (each D.faults devices.old) (each D.faults devices.new) }
-    ensures quiet { ¬ IsErrOf result RecoverError.DiskFault → each D.faults devices.new ≡ each D.faults devices.old }
+    ensures disk_fault { IsErrOf result (RecoverError.Load LoadError.DiskFault) → OneFaulted (each D.faults devices.old) (each D.faults devices.new) }
+    ensures quiet { ¬ IsErrOf result (RecoverError.Load LoadError.DiskFault) → each D.faults devices.new ≡ each D.faults devices.old }
 {
     recover_by_windows(rt, alloc, workers, WINDOW, limit, devices, gate)
 }
@@ -102,14 +92,10 @@ pub fn recover_by_windows<D: Disk, H: Threads + Wait + Sync, G: Gate + Sync>(
     ensures recovered { IfOk result (λ recovered. IfReadKnown (IsRecoveredFrom recovered.catalogue recovered.tables.rows recovered.txns) (D.known devices.old.log) (D.known devices.old.slot_a) (D.known devices.old.slot_b)) }
     ensures within { IfOk result (λ recovered. first_over limit (length recovered.catalogue.tables) recovered.tables.rows ≡ None) }
     ensures fits { IfOk result (λ recovered. FitsCatalogue recovered.catalogue recovered.tables.tables recovered.tables.rows) }
-    ensures no_store { IsErrOf result RecoverError.NoStore → HasNoStore (each D.known devices.old) }
-    ensures log_damage { (at : ℕ) (kind : ALogDamage) → IsErrOf result (RecoverError.Damaged (InLog at kind)) → HasDamage (InLog at kind) (each D.known devices.old) }
-    ensures slot_damage { (slot : ASlotName) (at : ℕ) (kind : ASlotDamage) → IsErrOf result (RecoverError.Damaged (InSlot slot at kind)) → HasDamage (InSlot slot at kind) (each D.known devices.old) }
-    ensures abort { (note : ANote) → IsErrOf result (RecoverError.AbortInLog note) → IfImagesKnown (AbortsIn note) (each D.known devices.old) }
-    ensures over { (table : List ℕ) (rows most : ℕ) → IsErrOf result (RecoverError.RowsOver table rows most) → (most ≡ limit) × IfImagesKnown (IsOverIn table rows limit) (each D.known devices.old) }
+    ensures refused { IfErr result (AreRefused limit (each D.known devices.old)) }
     ensures same { each D.known devices.new ≡ each D.known devices.old }
-    ensures disk_fault { IsErrOf result RecoverError.DiskFault → OneFaulted (each D.faults devices.old) (each D.faults devices.new) }
-    ensures quiet { ¬ IsErrOf result RecoverError.DiskFault → each D.faults devices.new ≡ each D.faults devices.old }
+    ensures disk_fault { IsErrOf result (RecoverError.Load LoadError.DiskFault) → OneFaulted (each D.faults devices.old) (each D.faults devices.new) }
+    ensures quiet { ¬ IsErrOf result (RecoverError.Load LoadError.DiskFault) → each D.faults devices.new ≡ each D.faults devices.old }
 {
     let Scanned {
         catalogue,

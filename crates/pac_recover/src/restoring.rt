@@ -1,24 +1,19 @@
 // Executes what is stored.
-ghost use Rattle.std.specs.Prelude.{◌≡◌, ◌+◌, ℕ, List, IfOk, IsErrOf, None, length};
+ghost use Rattle.std.specs.Prelude.{◌≡◌, ◌+◌, ℕ, List, IfErr, IfOk, IsErrOf, None, length};
 ghost use Rattle.pac_outside.specs.Devices.{OneFaulted, each};
-ghost use Rattle.pac_ops.specs.declared.note.Note.{Note as ANote};
 ghost use Rattle.pac_types.specs.Execution.{first_over};
 ghost use Rattle.pac_types.specs.Fits.{FitsCatalogue};
-ghost use Rattle.pac_log.specs.declared.damage.DamageKind.{DamageKind as ALogDamage};
-ghost use Rattle.pac_check.specs.declared.damage.SlotDamageKind.{SlotDamageKind as ASlotDamage};
-ghost use Rattle.pac_check.specs.declared.info.SlotName.{SlotName as ASlotName};
 ghost use Rattle.pac_check.specs.SlotStates.{IsSlot};
 ghost use Rattle.pac_outside.specs.Disk.{IfKnown};
 ghost use Rattle.pac_store.specs.Images.{IfReadKnown};
-ghost use Rattle.pac_recover.specs.declared.errors.Damage.TheVariants.{Log as InLog, Slot as InSlot};
-ghost use Rattle.pac_recover.specs.Recovering.{AbortsIn, IsOverIn, IsRecoveredFrom};
+ghost use Rattle.pac_recover.specs.Recovering.{IsRecoveredFrom};
 ghost use Rattle.pac_recover.specs.Restoring.{IsRestored};
 ghost use Rattle.pac_recover.specs.Logs.{HoldsLogUpTo};
-ghost use Rattle.pac_recover.specs.Refusals.{HasDamage, HasNoStore, IfImagesKnown};
+ghost use Rattle.pac_recover.specs.Refusals.{AreRefused};
 
 use crate::execution::tables_of;
 use crate::store::{Ended, replay_store};
-use crate::{Executor, RecoverError, test_rows};
+use crate::{Executor, LoadError, RecoverError, test_rows};
 use pac_check::Slots;
 use pac_log::LogReader;
 use pac_outside::{Devices, Disk};
@@ -45,11 +40,10 @@ pub struct Restored<T: TableRows> {
 ///
 /// # Errors
 ///
-/// - Those of [`load`](crate::load), in its order.
+/// - [`RecoverError::Load`] with those of [`load`](crate::load), in its order; with `NoMemory` also where there was none for the tables.
 /// - [`RecoverError::AbortInLog`] exactly where serial execution of the stored transactions stops, with the transaction that
 ///   aborts.
 /// - [`RecoverError::RowsOver`] exactly where the tables then have more rows than the limit: the first such table.
-/// - [`RecoverError::NoMemory`] where there was no memory for the tables.
 pub fn restore<D: Disk, T: TableRows, X: Executor>(
     alloc: Global,
     executor: &X,
@@ -67,16 +61,12 @@ pub fn restore<D: Disk, T: TableRows, X: Executor>(
     ensures restored { IfOk result (λ restored. IfReadKnown (IsRecoveredFrom restored.catalogue restored.tables.rows restored.reader.gate.txns) (D.known devices.old.log) (D.known devices.old.slot_a) (D.known devices.old.slot_b)) }
 
     // When each refusal comes.
-    ensures no_store { IsErrOf result RecoverError.NoStore → HasNoStore (each D.known devices.old) }
-    ensures log_damage { (at : ℕ) (kind : ALogDamage) → IsErrOf result (RecoverError.Damaged (InLog at kind)) → HasDamage (InLog at kind) (each D.known devices.old) }
-    ensures slot_damage { (slot : ASlotName) (at : ℕ) (kind : ASlotDamage) → IsErrOf result (RecoverError.Damaged (InSlot slot at kind)) → HasDamage (InSlot slot at kind) (each D.known devices.old) }
-    ensures abort { (note : ANote) → IsErrOf result (RecoverError.AbortInLog note) → IfImagesKnown (AbortsIn note) (each D.known devices.old) }
-    ensures over { (table : List ℕ) (rows most : ℕ) → IsErrOf result (RecoverError.RowsOver table rows most) → (most ≡ limit) × IfImagesKnown (IsOverIn table rows limit) (each D.known devices.old) }
+    ensures refused { IfErr result (AreRefused limit (each D.known devices.old)) }
 
     // The devices are only read, and no call of one comes after one that failed.
     ensures same { each D.known devices.new ≡ each D.known devices.old }
-    ensures disk_fault { IsErrOf result RecoverError.DiskFault → OneFaulted (each D.faults devices.old) (each D.faults devices.new) }
-    ensures quiet { ¬ IsErrOf result RecoverError.DiskFault → each D.faults devices.new ≡ each D.faults devices.old }
+    ensures disk_fault { IsErrOf result (RecoverError.Load LoadError.DiskFault) → OneFaulted (each D.faults devices.old) (each D.faults devices.new) }
+    ensures quiet { ¬ IsErrOf result (RecoverError.Load LoadError.DiskFault) → each D.faults devices.new ≡ each D.faults devices.old }
 {
     let Ended {
         catalogue,

@@ -4,7 +4,7 @@ use Rattle.std.proofs.Math.Seq.{take-append_seam}
 use Rattle.std.proofs.lemmas.List.{append-nil}
 use Rattle.std.proofs.lemmas.List.Elements.{All-take}
 use Rattle.std.specs.List.{All}
-use Rattle.std.specs.Prelude.{IfOk}
+use Rattle.std.specs.Prelude.{IfErr, IfOk}
 use Rattle.pac_ops.specs.declared.transaction.Txn.{Txn}
 use Rattle.pac_outside.specs.declared.devices.Devices.{Devices}
 use Rattle.pac_outside.specs.Devices.{AreImages, AreSettled, RunsAsBefore, IfAllKnown, each}
@@ -22,10 +22,16 @@ use Rattle.pac_check.specs.declared.state.SlotState.{SlotState}
 use Rattle.pac_check.specs.SlotStates.{IsSlot}
 use Rattle.pac_store.specs.Images.{Images, IfReadKnown}
 use Rattle.pac_store.specs.Stands.{EndsWith, IsShutOrPrefix, StandsFor}
+use Rattle.pac_recover.specs.declared.errors.Damage.TheVariants.{Log, Slot}
+use Rattle.pac_recover.specs.declared.errors.LoadError.TheVariants as load
 use Rattle.pac_recover.specs.declared.errors.RecoverError.{RecoverError}
+use Rattle.pac_recover.specs.declared.errors.RecoverError.TheVariants as recover
+use Rattle.pac_recover.specs.Damages.{IsDamagedLog, IsDamagedSlot}
+use Rattle.pac_recover.specs.Refusals.{AreRefused}
+use Rattle.pac_log.specs.Reading.{IsStore}
 use Rattle.pac_recover.specs.declared.recovery.Recovered.{Recovered}
 use Rattle.pac_recover.specs.Logs.{HoldsLogUpTo}
-use Rattle.pac_recover.specs.Recovering.{IsRecoveredPrefix}
+use Rattle.pac_recover.specs.Recovering.{AbortsIn, IsOverIn, IsRecoveredPrefix}
 use Rattle.pac_recover.proofs.StandsLemmas.{recovers-prefix}
 use Rattle.pac_engine.specs.declared.parts.EngineParts.{EngineParts}
 use Rattle.pac_engine.specs.Standing.{EngineStands, HasDevices, durable_of}
@@ -165,6 +171,16 @@ read-before P l a b m x y is_m is_x is_y known =
     go (Some l) (Some a) None known = tt
     go (Some l) (Some a) (Some b) known = known
 
+-- what is refused of the devices after a sync is refused of what they held before it
+pub refused-before : (limit : ℕ) (l a b m x y : Option DiskHistory) → m ≡ option_map after_sync l → x ≡ option_map after_sync a → y ≡ option_map after_sync b → (error : RecoverError) → AreRefused limit (three m x y) error → AreRefused limit (three l a b) error
+refused-before limit l a b m x y is_m is_x is_y (recover.Load load.NoStore) refused = known-before (λ h. (text : List ℕ) (catalogue : CatalogueState) → IsStore text catalogue h.now.seen → ⊥) (λ h p. p) l m is_m refused
+refused-before limit l a b m x y is_m is_x is_y (recover.Load (load.Damaged (Log at kind))) refused = known-before (λ h. IsDamagedLog at kind h.now.seen) (λ h p. p) l m is_m refused
+refused-before limit l a b m x y is_m is_x is_y (recover.Load (load.Damaged (Slot slot at kind))) refused = read-before (IsDamagedSlot slot at kind) l a b m x y is_m is_x is_y refused
+refused-before limit l a b m x y is_m is_x is_y (recover.Load load.DiskFault) refused = tt
+refused-before limit l a b m x y is_m is_x is_y (recover.Load load.NoMemory) refused = tt
+refused-before limit l a b m x y is_m is_x is_y (recover.AbortInLog note) refused = read-before (AbortsIn note) l a b m x y is_m is_x is_y refused
+refused-before limit l a b m x y is_m is_x is_y (recover.RowsOver table rows most) refused = (refused.0, read-before (IsOverIn table rows limit) l a b m x y is_m is_x is_y refused.1)
+
 -- ---- what is opened
 
 module _ {D : Type 0} (known : D → Option DiskHistory) (devices : Devices D) (l a b m x y : Option DiskHistory) (is_m : m ≡ option_map after_sync l) (is_x : x ≡ option_map after_sync a) (is_y : y ≡ option_map after_sync b) (same : each known devices ≡ three m x y) where
@@ -192,3 +208,7 @@ module _ {D : Type 0} (known : D → Option DiskHistory) (devices : Devices D) (
     where
       all-same : (t : Devices (Option DiskHistory)) (m x y l a b : Option DiskHistory) → t ≡ three m x y → m ≡ option_map after_sync l → x ≡ option_map after_sync a → y ≡ option_map after_sync b → t ≡ three (option_map after_sync l) (option_map after_sync a) (option_map after_sync b)
       all-same t m x y l a b e is_m is_x is_y = cc
+
+  pub refused-opened : (limit : ℕ) (r : Result EngineParts RecoverError) → IfErr r (AreRefused limit (three m x y)) → IfErr r (AreRefused limit (three l a b))
+  refused-opened limit (Ok e) refused = tt
+  refused-opened limit (Err error) refused = refused-before limit l a b m x y is_m is_x is_y error refused

@@ -26,18 +26,16 @@ use Rattle.pac_report.specs.Replies.{reply_text}
 use Rattle.pac_session.specs.Session.{Rules, SessionState, committed, replies}
 use Rattle.pac_session.specs.Open.{rules_of, state_now}
 use Rattle.pac_recover.specs.declared.errors.RecoverError.{RecoverError}
-use Rattle.pac_recover.specs.declared.errors.RecoverError.TheVariants as error
 use Rattle.pac_recover.specs.Recovering.{IsRecoveredFrom}
 use Rattle.pac_engine.specs.declared.parts.EngineParts.{EngineParts}
 use Rattle.pac_engine.specs.Standing.{KeepsHistory, MayLeave, StandsOn, StandsWith, WhileKnown, durable_of, saved_of}
 use Rattle.pac_run.specs.declared.stop.RunStop.{RunStop}
-use Rattle.pac_run.specs.declared.stop.RunStop.TheVariants.{NoStore, Damaged, AbortInLog, RowsOver, InputFault, OutputFault, DiskFault, NoMemory, LogFull, TooLong, TooLarge}
+use Rattle.pac_run.specs.declared.stop.RunStop.TheVariants.{LogFull, Opening}
 use Rattle.pac_run.specs.Asked.{WereHandled}
-use Rattle.pac_run.specs.Causes.{stop_of_opening}
 use Rattle.pac_run.specs.Opening.{AllStand, BeginsOver, IsFresh, IsOpenedFrom, StandsForPrefix}
 use Rattle.pac_run.specs.Run.{AtExit, AtMoments, IsBegun, IsExit, IsRun, IsWholeRun, IfSeenKnown, LogHas, LogHasEither, history_after}
 use Rattle.pac_run.specs.Serving.{IsDone, Served}
-use Rattle.pac_run.specs.Stopping.{AreFirst, EndsGroups, HasWorked, IsStopped, IsStoppedAt, IsTorn, IsUnopened, MayNotOpen, StopsThere}
+use Rattle.pac_run.specs.Stopping.{AreFirst, EndsGroups, HasWorked, IsStopped, IsStoppedAt, IsTorn, IsUnopened, StopsOpening, StopsThere}
 use Rattle.pac_run.specs.Texts.{IsTextPrefix, texts}
 use Rattle.pac_run.proofs.AckedLemmas.{acknowledged, known-saved}
 use Rattle.pac_run.proofs.NameLemmas.{names-of}
@@ -59,31 +57,11 @@ prefix-of-all catalogue given all out prefix firsts =
 
 -- ---- a store that isn't opened
 
-opening-long : (error : RecoverError) → stop_of_opening error ≡ TooLong → ⊥
-opening-long error.NoStore is = cc
-opening-long (error.Damaged damage) is = cc
-opening-long (error.AbortInLog note) is = cc
-opening-long (error.RowsOver table rows limit) is = cc
-opening-long error.DiskFault is = cc
-opening-long error.NoMemory is = cc
-
--- a store that isn't opened stops the run so
-early-stop : (error : RecoverError) → MayNotOpen (stop_of_opening error)
-early-stop error.NoStore = tt
-early-stop (error.Damaged damage) = tt
-early-stop (error.AbortInLog note) = tt
-early-stop (error.RowsOver table rows limit) = tt
-early-stop error.DiskFault = tt
-early-stop error.NoMemory = tt
-
-same-stop : (a b : RunStop) → ◌≡◌ {A = Result (Unit {0}) RunStop} (Err a) (Err b) → a ≡ b
-same-stop a b e = cc
-
-none-begun : (P : Images → Type 0) (stop : RunStop) → MayNotOpen stop → (l a b : Option DiskHistory) → IfSeenKnown (λ images. IsUnopened (Err stop) [] ⊎ P images) (three l a b)
-none-begun P stop early None a b = tt
-none-begun P stop early (Some l) None b = tt
-none-begun P stop early (Some l) (Some a) None = tt
-none-begun P stop early (Some l) (Some a) (Some b) = inl (early, refl)
+none-begun : (P : Images → Type 0) (error : RecoverError) (l a b : Option DiskHistory) → IfSeenKnown (λ images. IsUnopened (Err (Opening error)) [] ⊎ P images) (three l a b)
+none-begun P error None a b = tt
+none-begun P error (Some l) None b = tt
+none-begun P error (Some l) (Some a) None = tt
+none-begun P error (Some l) (Some a) (Some b) = inl ((error, refl), refl)
 
 none-handled : (left : Option (List ℕ)) → WereHandled left [] [] left
 none-handled None = tt
@@ -93,20 +71,6 @@ as-before : (P : Devices DiskHistory → Type 0) (R : Devices DiskHistory → De
 as-before P R step None y runs = tt
 as-before P R step (Some x) None runs = absurd runs
 as-before P R step (Some x) (Some y) runs = λ is. step x y runs is
-
--- a store that is not opened is none that was worked on
-not-worked : (stop : RunStop) → MayNotOpen stop → HasWorked {A = Unit {0}} (Err stop) → ⊥
-not-worked NoStore early worked = worked
-not-worked (Damaged damage) early worked = worked
-not-worked (AbortInLog note) early worked = worked
-not-worked (RowsOver table rows limit) early worked = worked
-not-worked DiskFault early worked = worked
-not-worked NoMemory early worked = worked
-not-worked InputFault early worked = early
-not-worked OutputFault early worked = early
-not-worked (LogFull need) early worked = early
-not-worked TooLong early worked = early
-not-worked (TooLarge bytes) early worked = early
 
 -- what is said of the log leads to something else
 of-log : (P Q : DiskState → Type 0) → ((state : DiskState) → P state → Q state) → (known : Devices (Option DiskHistory)) → OfLog P known → OfLog Q known
@@ -139,47 +103,50 @@ slots-seen known known' same = ap (λ (reads : Devices (Option (List ℕ))). slo
 slots-uncalled : (known known' : Devices (Option DiskHistory)) → slots_of known' ≡ slots_of known → slots_of (known_reads known') ≡ slots_of (known_reads known)
 slots-uncalled known known' same = ap (λ (slots : Option DiskHistory × Option DiskHistory). (known_read slots.0, known_read slots.1)) same
 
-pub not-opened : (batch limit : ℕ) (left held : Option (List ℕ)) (l a b : Option DiskHistory) (known' : Devices (Option DiskHistory)) (faulted : Type 0) (error : RecoverError) (stop : RunStop) → stop ≡ stop_of_opening error → IfAllKnown RunsAsBefore (three l a b) known'
-    → known_reads known' ≡ known_reads (three l a b) → IsRun batch limit left left held held (three l a b) known' faulted (Err stop)
-not-opened batch limit left held l a b known' faulted error stop is runs seen =
-    let rules : Rules = record { catalogue = record { tables = []; procs = [] }; limit = limit; most = batch } in
-    let start : SessionState = record { tables = empty; number = 0 } in
-    let early : MayNotOpen stop = subst MayNotOpen (sym is) (early-stop error) in
-    record {
-      lines = [];
-      ahead = [];
-      handled = none-handled left;
-      few = λ other. record { bytes = []; gave = sym (prepend_known-nil left); few = omega arith };
-      long = λ long. absurd (opening-long error (sym is ∙ same-stop stop TooLong long));
-      cut = λ cut. refl;
-      behind = λ input far memory. omega arith;
-      rules = rules;
-      requests = [];
-      asked = inl refl;
-      last = tt;
-      out = [];
-      took = took-nothing held;
-      limited = refl;
-      most = refl;
-      start = start;
-      place = 0;
-      begun = none-begun (IsBegun rules 0 start) stop early l a b;
-      prefix = record { count = 0; is = refl };
-      whole = tt;
-      exit = λ text catalogue history least. as-before (AllStand text catalogue history least) (AtExit text catalogue history rules 0 start [] []) (λ u v run stands. inl (refl, λ images are. run_end (AreImages u) u v run images are)) _ _ runs;
-      moments = λ text catalogue history least. as-before (AllStand text catalogue history least) (AtMoments text catalogue history least rules start [])
-          (λ u v run stands. weaken_run (AreImages u) (λ images. AreImages u images ⊎ StandsFor text catalogue (history_after history rules start []) least images) (λ images are. inl are) u v run) _ _ runs;
-      given = [];
-      written = record { count = 0; is = refl };
-      all = inl refl;
-      stopped = inl (early, refl, refl);
-      exact = λ worked. absurd (not-worked stop early worked);
-      full = λ need full. absurd (subst MayNotOpen (same-stop stop (LogFull need) full) early);
-      torn = λ disk. inl refl;
-      slots = λ none. slots-seen (three l a b) known' seen;
-      still = λ none. seen;
-      there = inl (early, refl);
-    }
+module _ (batch limit : ℕ) (left held : Option (List ℕ)) (l a b : Option DiskHistory) (known' : Devices (Option DiskHistory)) (faulted : Type 0) (error : RecoverError) (runs : IfAllKnown RunsAsBefore (three l a b) known')
+    (seen : known_reads known' ≡ known_reads (three l a b)) where
+  unopened : IsRun batch limit left left held held (three l a b) known' faulted (Err (Opening error))
+  unopened =
+      let rules : Rules = record { catalogue = record { tables = []; procs = [] }; limit = limit; most = batch } in
+      let start : SessionState = record { tables = empty; number = 0 } in
+      record {
+        lines = [];
+        ahead = [];
+        handled = none-handled left;
+        few = λ other. record { bytes = []; gave = sym (prepend_known-nil left); few = omega arith };
+        long = λ long. absurd cc;
+        cut = λ cut. refl;
+        behind = λ input far memory. omega arith;
+        rules = rules;
+        requests = [];
+        asked = inl refl;
+        last = tt;
+        out = [];
+        took = took-nothing held;
+        limited = refl;
+        most = refl;
+        start = start;
+        place = 0;
+        begun = none-begun (IsBegun rules 0 start) error l a b;
+        prefix = record { count = 0; is = refl };
+        whole = tt;
+        exit = λ text catalogue history least. as-before (AllStand text catalogue history least) (AtExit text catalogue history rules 0 start [] []) (λ u v run stands. inl (refl, λ images are. run_end (AreImages u) u v run images are)) _ _ runs;
+        moments = λ text catalogue history least. as-before (AllStand text catalogue history least) (AtMoments text catalogue history least rules start [])
+            (λ u v run stands. weaken_run (AreImages u) (λ images. AreImages u images ⊎ StandsFor text catalogue (history_after history rules start []) least images) (λ images are. inl are) u v run) _ _ runs;
+        given = [];
+        written = record { count = 0; is = refl };
+        all = inl refl;
+        stopped = inl ((error, refl), refl, refl);
+        exact = λ worked. absurd worked;
+        full = λ need full. absurd cc;
+        torn = λ disk. absurd cc;
+        slots = λ none. slots-seen (three l a b) known' seen;
+        still = λ none. seen;
+        there = inl ((error, refl), refl);
+      }
+
+  pub not-opened : (stop : RunStop) → stop ≡ Opening error → IsRun batch limit left left held held (three l a b) known' faulted (Err stop)
+  not-opened stop is = subst (λ (s : RunStop). IsRun batch limit left left held held (three l a b) known' faulted (Err s)) (sym is) unopened
 
 -- ---- one that is
 
@@ -285,7 +252,7 @@ module _ (batch limit : ℕ) (engine new : EngineParts) (left left' held held' :
     moments-known (Some t) (Some m) (Some n) begin run keep = λ all. let prefix = begin text catalogue history least all in each-moment t m n prefix (text-of (take (durable_of engine) history) m prefix.stands) (keep prefix.stands) run
 
   then-there : (run : Result (Unit {0}) RunStop) → IfErr run (λ stop. StopsThere (rules_of engine.session) engine.log.gate.place (state_now engine.session) served.requests served.given served.out stop)
-      → IfErr run (λ stop. (MayNotOpen stop × (served.requests ≡ [])) ⊎ StopsThere (rules_of engine.session) engine.log.gate.place (state_now engine.session) served.requests served.given served.out stop)
+      → IfErr run (λ stop. (StopsOpening stop × (served.requests ≡ [])) ⊎ StopsThere (rules_of engine.session) engine.log.gate.place (state_now engine.session) served.requests served.given served.out stop)
   then-there (Ok done) is = tt
   then-there (Err stop) is = inr is
 
@@ -319,7 +286,7 @@ module _ (batch limit : ℕ) (engine new : EngineParts) (left left' held held' :
     all = served.whole;
     exact = λ worked. log-has-one rules engine.log.gate.place start served.requests new.log.gate (served.durable worked) known' (ended worked);
     full = λ need is. let last = served.full need is in (last.0, last.1, last.2, log-has-one rules engine.log.gate.place start last.0 new.log.gate last.3 known' (full need is));
-    torn = λ is. let last = served.torn is in inr (last.0, last.1, last.2, log-has-either rules engine.log.gate.place start last.0 served.requests known' last.3);
+    torn = λ is. let last = served.torn is in (last.0, last.1, last.2, log-has-either rules engine.log.gate.place start last.0 served.requests known' last.3);
     slots = λ none. slots-uncalled middle known' (served.slots none) ∙ slots-seen (three l a b) middle seen;
     still = λ none. ap (λ (known : Devices (Option DiskHistory)). known_reads known) (served.still none) ∙ seen;
     there = then-there result served.there;

@@ -28,7 +28,7 @@ use Rattle.pac_engine.specs.Committing.{gate_past}
 use Rattle.pac_engine.proofs.StepLemmas.{checkpoint-gate}
 use Rattle.pac_run.specs.declared.limits.TheConstants.{MAX_INPUT}
 use Rattle.pac_run.specs.declared.stop.RunStop.{RunStop}
-use Rattle.pac_run.specs.declared.stop.RunStop.TheVariants.{NoStore, Damaged, AbortInLog, RowsOver, InputFault, OutputFault, DiskFault, NoMemory, LogFull, TooLong, TooLarge}
+use Rattle.pac_run.specs.declared.stop.RunStop.TheVariants.{Opening, InputFault, OutputFault, DiskFault, NoMemory, LogFull, TooLong, TooLarge}
 use Rattle.pac_run.specs.Asked.{WereAsked, IsOverLong, TookAtMost, WereHandled}
 use Rattle.pac_run.specs.Serving.{Broke, KeepsGate, LineServed, Replied, Served, Serving}
 use Rattle.pac_run.specs.Stopping.{EndsGroups, HasWorked, IsStoppedAt, IsTorn, StepStops}
@@ -73,10 +73,7 @@ worked-stop OutputFault worked input long = inl refl
 worked-stop (TooLarge bytes) worked input long = inr (bytes, refl)
 worked-stop InputFault worked input long = absurd (input refl)
 worked-stop TooLong worked input long = absurd (long refl)
-worked-stop NoStore worked input long = absurd worked
-worked-stop (Damaged damage) worked input long = absurd worked
-worked-stop (AbortInLog note) worked input long = absurd worked
-worked-stop (RowsOver table rows limit) worked input long = absurd worked
+worked-stop (Opening error) worked input long = absurd worked
 worked-stop DiskFault worked input long = absurd worked
 worked-stop NoMemory worked input long = absurd worked
 worked-stop (LogFull need) worked input long = absurd worked

@@ -23,7 +23,7 @@ use Rattle.pac_run.specs.Serving.{GoesFrom}
 use Rattle.pac_run.specs.Stopping.{AreFirst, IsStoppedAt, StepStops, StopsInLast, StopsThere, closed_groups}
 use Rattle.pac_run.specs.Texts.{texts}
 use Rattle.pac_run.specs.declared.stop.RunStop.{RunStop}
-use Rattle.pac_run.specs.declared.stop.RunStop.TheVariants.{NoStore, Damaged, AbortInLog, RowsOver, InputFault, OutputFault, DiskFault, NoMemory, LogFull, TooLong, TooLarge}
+use Rattle.pac_run.specs.declared.stop.RunStop.TheVariants.{Opening, InputFault, OutputFault, DiskFault, NoMemory, LogFull, TooLong, TooLarge}
 use Rattle.pac_run.proofs.StepLemmas.{cut-more}
 
 -- ---- the replies are the first of the session
@@ -67,10 +67,7 @@ stops-first rules place start closed given cause.NoMemory (inl is) = some-first 
 stops-first rules place start closed given cause.NoMemory (inr is) = unsaved-first (described rules place start closed) given is
 
 pub stopped-first : (rules : Rules) (place : ℕ) (start : SessionState) (requests : List Request) (given : List Reply) (stop : RunStop) → IsStoppedAt rules place start requests given stop → AreFirst given (replies rules start requests)
-stopped-first rules place start requests given NoStore is = absurd is
-stopped-first rules place start requests given (Damaged damage) is = absurd is
-stopped-first rules place start requests given (AbortInLog note) is = absurd is
-stopped-first rules place start requests given (RowsOver table rows limit) is = absurd is
+stopped-first rules place start requests given (Opening error) is = absurd is
 stopped-first rules place start requests given InputFault is = groups-first rules place start requests given (all-first given _ is.0)
 stopped-first rules place start requests given TooLong is = groups-first rules place start requests given (all-first given _ is.0)
 stopped-first rules place start requests given OutputFault is = groups-first rules place start requests given (all-first given _ is)
@@ -136,10 +133,7 @@ module _ (first now : EngineParts) (requests : List Request) (given : List Reply
     then-stops why stops = subst (λ (c : List (List Request)). StopsAt rules place start c (given ++ more) why) (sym closed-is) (stops-then rules place start whole given now goes.closes one more why stops)
 
     stopped-there : (stop : RunStop) → StepStops rules now.log.gate.place middle one more stop → IsStoppedAt rules place start (requests ++ asked ∷ []) (given ++ more) stop
-    stopped-there NoStore stops = absurd stops
-    stopped-there (Damaged damage) stops = absurd stops
-    stopped-there (AbortInLog note) stops = absurd stops
-    stopped-there (RowsOver table rows limit) stops = absurd stops
+    stopped-there (Opening error) stops = absurd stops
     stopped-there InputFault stops = absurd stops
     stopped-there TooLong stops = absurd stops
     stopped-there OutputFault stops = all-known stops
@@ -175,10 +169,7 @@ module _ (first now : EngineParts) (requests : List Request) (given : List Reply
 
         by : (s : RunStop) → StepStops rules (place_after place (closed_groups rules place start requests)) middle (cut_one rules middle whole.rest asked).closed more s → stop ≡ s
             → StopsThere rules place start (requests ++ asked ∷ []) (given ++ more) (texts first.session.catalogue given ++ out) s
-        by NoStore never is = absurd never
-        by (Damaged damage) never is = absurd never
-        by (AbortInLog note) never is = absurd never
-        by (RowsOver table rows limit) never is = absurd never
+        by (Opening error) never is = absurd never
         by InputFault never is = absurd never
         by TooLong never is = absurd never
         by OutputFault here is = subst (λ (s : RunStop). StopsInLast rules place start (requests ++ asked ∷ []) (given ++ more) (texts first.session.catalogue given ++ out) s) is in-last
@@ -220,15 +211,6 @@ pub never-stops : (requests : List Request) → NoStop requests → StopsLast re
 never-stops [] none = tt
 never-stops (r ∷ []) none = tt
 never-stops (r ∷ next ∷ requests) none = (none.0, never-stops (next ∷ requests) none.1)
-
-pub stop-is : (asked : Request) → is_stop asked ≡ true → asked ≡ request.Stop
-stop-is (request.Call call) is = absurd cc
-stop-is (request.AdHoc records) is = absurd cc
-stop-is request.Flush is = absurd cc
-stop-is (request.Show table key) is = absurd cc
-stop-is request.Save is = absurd cc
-stop-is request.Stop is = refl
-stop-is (request.Refused fault) is = absurd cc
 
 -- after a stop no request is left
 pub all-replied : (rules : Rules) (place : ℕ) (start : SessionState) (before : List Request) (given : List Reply) (now : EngineParts) → Closes rules place start (cut rules start (before ++ request.Stop ∷ [])) given now → (cut rules start (before ++ request.Stop ∷ [])).rest ≡ []

@@ -1,21 +1,10 @@
 -- Why a run stops, where a layer below refuses.
 use Rattle.pac_lines.specs.declared.line_error.LineError.{LineError}
 use Rattle.pac_lines.specs.declared.line_error.LineError.TheVariants as line
-use Rattle.pac_recover.specs.declared.errors.RecoverError.{RecoverError}
-use Rattle.pac_recover.specs.declared.errors.RecoverError.TheVariants as recover
 use Rattle.pac_engine.specs.declared.fault.EngineCause.{EngineCause}
 use Rattle.pac_engine.specs.declared.fault.EngineCause.TheVariants as engine
 use Rattle.pac_run.specs.declared.stop.RunStop.{RunStop}
-use Rattle.pac_run.specs.declared.stop.RunStop.TheVariants.{NoStore, Damaged, AbortInLog, RowsOver, InputFault, DiskFault, NoMemory, LogFull, TooLong, TooLarge}
-
--- why the store isn't opened
-abbrev pub stop_of_opening : RecoverError → RunStop
-stop_of_opening recover.NoStore = NoStore
-stop_of_opening (recover.Damaged damage) = Damaged damage
-stop_of_opening (recover.AbortInLog note) = AbortInLog note
-stop_of_opening (recover.RowsOver table rows limit) = RowsOver table rows limit
-stop_of_opening recover.DiskFault = DiskFault
-stop_of_opening recover.NoMemory = NoMemory
+use Rattle.pac_run.specs.declared.stop.RunStop.TheVariants.{InputFault, DiskFault, NoMemory, LogFull, TooLong, TooLarge}
 
 -- why the next line isn't read
 abbrev pub stop_of_read : LineError → RunStop

@@ -29,7 +29,7 @@ use Rattle.pac_run.specs.declared.stop.RunStop.TheVariants.{DiskFault, InputFaul
 use Rattle.pac_run.specs.Acked.{Acknowledges, ReportsSaved}
 use Rattle.pac_run.specs.Asked.{NoSave, WereAsked, IsOverLong, StopsLast, TookAtMost, WereHandled}
 use Rattle.pac_run.specs.Opening.{AllStand}
-use Rattle.pac_run.specs.Stopping.{BeforeLast, HasWorked, IsStopped, IsUnopened, MayNotOpen, SaveFits, StopsThere, closed_groups, closed_number}
+use Rattle.pac_run.specs.Stopping.{BeforeLast, HasWorked, StopsOpening, IsStopped, IsUnopened, SaveFits, StopsThere, closed_groups, closed_number}
 use Rattle.pac_run.specs.Texts.{IsTextPrefix, texts}
 
 -- ---- where the session begins
@@ -135,7 +135,7 @@ pub record IsRun (batch limit : ℕ) (left left' held held' : Option (List ℕ))
   -- of the groups that were closed before the last request, and where a device failed it is one or the other
   pub exact : HasWorked result → OfLog (LogHas rules place start requests) known'
   pub full : (need : ℕ) → IsErrOf result (LogFull need) → BeforeLast (λ before. OfLog (LogHas rules place start before) known') requests
-  pub torn : IsErrOf result DiskFault → (requests ≡ []) ⊎ BeforeLast (λ before. OfLog (LogHasEither rules place start before requests) known') requests
+  pub torn : IsErrOf result DiskFault → BeforeLast (λ before. OfLog (LogHasEither rules place start before requests) known') requests
   -- a read of a slot gives what it gave, unless a save was asked for; of each device it does, where nothing was
   pub slots : NoSave requests → slots_of (known_reads known') ≡ slots_of (known_reads known)
   pub still : requests ≡ [] → known_reads known' ≡ known_reads known
@@ -147,4 +147,4 @@ pub record IsRun (batch limit : ℕ) (left left' held held' : Option (List ℕ))
   pub all : (out ≡ texts rules.catalogue given) ⊎ faulted
   pub stopped : IfErr result (λ stop. IsStopped rules place start requests given stop)
   -- and within which request: all that was due before it was written
-  pub there : IfErr result (λ stop. (MayNotOpen stop × (requests ≡ [])) ⊎ StopsThere rules place start requests given out stop)
+  pub there : IfErr result (λ stop. (StopsOpening stop × (requests ≡ [])) ⊎ StopsThere rules place start requests given out stop)

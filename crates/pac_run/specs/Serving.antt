@@ -25,7 +25,7 @@ use Rattle.pac_engine.specs.Committing.{gate_past}
 use Rattle.pac_engine.specs.Standing.{OnlyGrows, KeepsHistory, StandsOn, WhileAllKnown, durable_of}
 use Rattle.pac_run.specs.declared.limits.TheConstants.{MAX_INPUT}
 use Rattle.pac_run.specs.declared.stop.RunStop.{RunStop}
-use Rattle.pac_run.specs.declared.stop.RunStop.TheVariants.{NoStore, Damaged, AbortInLog, RowsOver, InputFault, OutputFault, DiskFault, NoMemory, LogFull, TooLong, TooLarge}
+use Rattle.pac_run.specs.declared.stop.RunStop.TheVariants.{Opening, InputFault, OutputFault, DiskFault, NoMemory, LogFull, TooLong, TooLarge}
 use Rattle.pac_run.specs.Asked.{WereAsked, IsOverLong, LineAsks, LinesAsk, NoSave, NoStop, StopsLast, TookAtMost, WereHandled}
 use Rattle.pac_run.specs.Stopping.{AreFirst, BeforeLast, EndsGroups, HasWorked, IsStoppedAt, IsTorn, SaveFits, StepStops, StopsThere, closed_groups}
 use Rattle.pac_run.specs.Texts.{IsTextPrefix, IsPlain, texts}
@@ -75,10 +75,7 @@ IsAhead catalogue asked session ahead = asked ≡ request.Save → ahead ≡ tex
 abbrev pub KeepsGate : Request → EngineParts → EngineParts → RunStop → Type 0
 KeepsGate asked old new (LogFull need) = new.log.gate ≡ old.log.gate
 KeepsGate asked old new (TooLarge bytes) = (asked ≡ request.Save) × (new.log.gate ≡ gate_past old.session.txns old.log.gate)
-KeepsGate asked old new NoStore = Unit {0}
-KeepsGate asked old new (Damaged damage) = Unit {0}
-KeepsGate asked old new (AbortInLog note) = Unit {0}
-KeepsGate asked old new (RowsOver table rows limit) = Unit {0}
+KeepsGate asked old new (Opening error) = Unit {0}
 KeepsGate asked old new InputFault = Unit {0}
 KeepsGate asked old new OutputFault = Unit {0}
 KeepsGate asked old new DiskFault = Unit {0}

@@ -11,12 +11,15 @@ use Rattle.pac_request.specs.declared.request.Request.TheVariants as request
 use Rattle.pac_request.specs.declared.request.Reply.{Reply}
 use Rattle.pac_session.specs.Session.{Rules, SessionState, ends}
 use Rattle.pac_session.specs.Groups.{Group, all_replies, all_requests, cut, cut_one, described}
+use Rattle.pac_recover.specs.declared.errors.LoadError.TheVariants as load
+use Rattle.pac_recover.specs.declared.errors.RecoverError.{RecoverError}
+use Rattle.pac_recover.specs.declared.errors.RecoverError.TheVariants as recover
 use Rattle.pac_engine.specs.declared.fault.EngineCause.TheVariants as cause
 use Rattle.pac_engine.specs.Closing.{IsGateAfter, StopsAt, place_after, slot_len}
 use Rattle.pac_run.specs.Asked.{NoStop}
 use Rattle.pac_run.specs.Texts.{texts}
 use Rattle.pac_run.specs.declared.stop.RunStop.{RunStop}
-use Rattle.pac_run.specs.declared.stop.RunStop.TheVariants.{NoStore, Damaged, AbortInLog, RowsOver, InputFault, OutputFault, DiskFault, NoMemory, LogFull, TooLong, TooLarge}
+use Rattle.pac_run.specs.declared.stop.RunStop.TheVariants.{Opening, InputFault, OutputFault, DiskFault, NoMemory, LogFull, TooLong, TooLarge}
 
 -- the groups that closings cut off
 abbrev pub closed_groups : Rules → ℕ → SessionState → List Request → List Group
@@ -46,10 +49,7 @@ HasWorked (Ok done) = Unit {0}
 HasWorked (Err InputFault) = Unit {0}
 HasWorked (Err OutputFault) = Unit {0}
 HasWorked (Err TooLong) = Unit {0}
-HasWorked (Err NoStore) = ⊥
-HasWorked (Err (Damaged damage)) = ⊥
-HasWorked (Err (AbortInLog note)) = ⊥
-HasWorked (Err (RowsOver table rows limit)) = ⊥
+HasWorked (Err (Opening error)) = ⊥
 HasWorked (Err DiskFault) = ⊥
 HasWorked (Err NoMemory) = ⊥
 HasWorked (Err (LogFull need)) = ⊥
@@ -57,11 +57,8 @@ HasWorked (Err (TooLarge bytes)) = Unit {0}
 
 -- Which replies were to be written before a stop, where these requests were handled.
 abbrev pub IsStoppedAt : Rules → ℕ → SessionState → List Request → List Reply → RunStop → Type 0
--- no store is given up once it is open
-IsStoppedAt rules place start requests given NoStore = ⊥
-IsStoppedAt rules place start requests given (Damaged damage) = ⊥
-IsStoppedAt rules place start requests given (AbortInLog note) = ⊥
-IsStoppedAt rules place start requests given (RowsOver table rows limit) = ⊥
+-- a store is opened once
+IsStoppedAt rules place start requests given (Opening error) = ⊥
 -- those of all groups that were closed; no request was a stop
 IsStoppedAt rules place start requests given InputFault = (given ≡ all_replies (closed_groups rules place start requests)) × NoStop requests
 IsStoppedAt rules place start requests given TooLong = (given ≡ all_replies (closed_groups rules place start requests)) × NoStop requests
@@ -78,10 +75,12 @@ IsStoppedAt rules place start requests given NoMemory = StopsAt rules place star
 
 -- the store is refused: there is none, or it is damaged, aborts or is over the limit
 abbrev pub RefusesStore : RunStop → Type 0
-RefusesStore NoStore = Unit {0}
-RefusesStore (Damaged damage) = Unit {0}
-RefusesStore (AbortInLog note) = Unit {0}
-RefusesStore (RowsOver table rows limit) = Unit {0}
+RefusesStore (Opening (recover.Load load.NoStore)) = Unit {0}
+RefusesStore (Opening (recover.Load (load.Damaged damage))) = Unit {0}
+RefusesStore (Opening (recover.Load load.DiskFault)) = ⊥
+RefusesStore (Opening (recover.Load load.NoMemory)) = ⊥
+RefusesStore (Opening (recover.AbortInLog note)) = Unit {0}
+RefusesStore (Opening (recover.RowsOver table rows limit)) = Unit {0}
 RefusesStore InputFault = ⊥
 RefusesStore OutputFault = ⊥
 RefusesStore DiskFault = ⊥
@@ -90,28 +89,29 @@ RefusesStore (LogFull need) = ⊥
 RefusesStore TooLong = ⊥
 RefusesStore (TooLarge bytes) = ⊥
 
--- a run may stop so before its store is open: the store is refused, a device failed, or it was out of memory
-abbrev pub MayNotOpen : RunStop → Type 0
-MayNotOpen NoStore = Unit {0}
-MayNotOpen (Damaged damage) = Unit {0}
-MayNotOpen (AbortInLog note) = Unit {0}
-MayNotOpen (RowsOver table rows limit) = Unit {0}
-MayNotOpen InputFault = ⊥
-MayNotOpen OutputFault = ⊥
-MayNotOpen DiskFault = Unit {0}
-MayNotOpen NoMemory = Unit {0}
-MayNotOpen (LogFull need) = ⊥
-MayNotOpen TooLong = ⊥
-MayNotOpen (TooLarge bytes) = ⊥
+-- a call of a device failed, while the store was opened or later
+abbrev pub DeviceFailed : RunStop → Type 0
+DeviceFailed (Opening error) = error ≡ recover.Load load.DiskFault
+DeviceFailed DiskFault = Unit {0}
+DeviceFailed InputFault = ⊥
+DeviceFailed OutputFault = ⊥
+DeviceFailed NoMemory = ⊥
+DeviceFailed (LogFull need) = ⊥
+DeviceFailed TooLong = ⊥
+DeviceFailed (TooLarge bytes) = ⊥
+
+-- a run stops so while it opens its store
+abbrev pub StopsOpening : RunStop → Type 0
+StopsOpening stop = (error : RecoverError) × (stop ≡ Opening error)
 
 -- a run ended so before its store was open: no request was handled
 abbrev pub IsUnopened : Result (Unit {0}) RunStop → List Request → Type 0
 IsUnopened (Ok done) requests = ⊥
-IsUnopened (Err stop) requests = MayNotOpen stop × (requests ≡ [])
+IsUnopened (Err stop) requests = StopsOpening stop × (requests ≡ [])
 
 -- before its store was open, or where it stopped then
 abbrev pub IsStopped : Rules → ℕ → SessionState → List Request → List Reply → RunStop → Type 0
-IsStopped rules place start requests given stop = (MayNotOpen stop × (requests ≡ []) × (given ≡ [])) ⊎ IsStoppedAt rules place start requests given stop
+IsStopped rules place start requests given stop = (StopsOpening stop × (requests ≡ []) × (given ≡ [])) ⊎ IsStoppedAt rules place start requests given stop
 
 -- a save after these requests has room in a slot
 abbrev pub SaveFits : Rules → ℕ → SessionState → List Request → Type 0
@@ -119,10 +119,7 @@ SaveFits rules place start before = slot_len rules (ends rules start before) (pl
 
 -- which replies were to be written where a request was not answered, and these groups were to be closed
 abbrev pub StepStops : Rules → ℕ → SessionState → List (List Request) → List Reply → RunStop → Type 0
-StepStops rules place start closed more NoStore = ⊥
-StepStops rules place start closed more (Damaged damage) = ⊥
-StepStops rules place start closed more (AbortInLog note) = ⊥
-StepStops rules place start closed more (RowsOver table rows limit) = ⊥
+StepStops rules place start closed more (Opening error) = ⊥
 StepStops rules place start closed more InputFault = ⊥
 StepStops rules place start closed more TooLong = ⊥
 StepStops rules place start closed more OutputFault = more ≡ all_replies (described rules place start closed)
@@ -147,10 +144,7 @@ pub record StopsInLast (rules : Rules) (place : ℕ) (start : SessionState) (req
 -- Where a run stopped whose store was open. All replies were written that were due, and no more was read; or the last request
 -- was not answered to its end.
 abbrev pub StopsThere : Rules → ℕ → SessionState → List Request → List Reply → List ℕ → RunStop → Type 0
-StopsThere rules place start requests given out NoStore = ⊥
-StopsThere rules place start requests given out (Damaged damage) = ⊥
-StopsThere rules place start requests given out (AbortInLog note) = ⊥
-StopsThere rules place start requests given out (RowsOver table rows limit) = ⊥
+StopsThere rules place start requests given out (Opening error) = ⊥
 StopsThere rules place start requests given out InputFault = out ≡ texts rules.catalogue given
 StopsThere rules place start requests given out TooLong = out ≡ texts rules.catalogue given
 StopsThere rules place start requests given out NoMemory = (out ≡ texts rules.catalogue given) ⊎ StopsInLast rules place start requests given out NoMemory

@@ -1,20 +1,14 @@
 // How a store is opened.
-ghost use Rattle.std.specs.Prelude.{◌≡◌, ◌≤◌, ℕ, List, None, length, IfOk, IsErrOf};
+ghost use Rattle.std.specs.Prelude.{◌≡◌, ◌≤◌, ℕ, List, None, length, IfErr, IfOk, IsErrOf};
 ghost use Rattle.pac_ops.specs.declared.limits.TheConstants.{MAX_TXNS};
-ghost use Rattle.pac_ops.specs.declared.note.Note.{Note as ANote};
 ghost use Rattle.pac_outside.specs.Devices.{AreSettled, OneFaulted, RunsAsBefore, IfAllKnown, each};
 ghost use Rattle.pac_outside.specs.Disk.{IfKnown};
 ghost use Rattle.pac_outside.specs.Parts.{known_reads};
-ghost use Rattle.pac_log.specs.declared.damage.DamageKind.{DamageKind as ALogDamage};
-ghost use Rattle.pac_check.specs.declared.damage.SlotDamageKind.{SlotDamageKind as ASlotDamage};
-ghost use Rattle.pac_check.specs.declared.info.SlotName.{SlotName as ASlotName};
 ghost use Rattle.pac_check.specs.declared.limits.TheConstants.{MAX_SAVED_ROWS};
 ghost use Rattle.pac_check.specs.SlotStates.{IsSlot};
 ghost use Rattle.pac_store.specs.Images.{IfReadKnown};
-ghost use Rattle.pac_recover.specs.declared.errors.Damage.TheVariants.{Log as InLog, Slot as InSlot};
 ghost use Rattle.pac_recover.specs.Logs.{HoldsLogUpTo};
-ghost use Rattle.pac_recover.specs.Recovering.{AbortsIn, IsOverIn};
-ghost use Rattle.pac_recover.specs.Refusals.{HasDamage, HasNoStore, IfImagesKnown};
+ghost use Rattle.pac_recover.specs.Refusals.{AreRefused};
 ghost use Rattle.pac_types.specs.Execution.{first_over};
 ghost use Rattle.pac_engine.specs.Standing.{HasDevices};
 ghost use Rattle.pac_run.specs.Opening.{BeginsOver, IsFresh, IsOpenedFrom};
@@ -23,7 +17,7 @@ use crate::serially::Serially;
 use pac_engine::Engine;
 use pac_log::Log;
 use pac_outside::{Devices, Disk};
-use pac_recover::{RecoverError, Restored, restore};
+use pac_recover::{LoadError, RecoverError, Restored, restore};
 use std::alloc::Global;
 
 // An engine over what is stored on devices, which are only read.
@@ -42,14 +36,10 @@ fn engine_over<D: Disk>(
     ensures log { IfOk result (λ engine. IfKnown (λ old. HoldsLogUpTo engine.log.gate old.now.seen) (D.known devices.old.log)) }
     ensures slot_a { IfOk result (λ engine. IfKnown (λ old. IsSlot engine.session.catalogue.tables engine.slots.a old.now.seen) (D.known devices.old.slot_a)) }
     ensures slot_b { IfOk result (λ engine. IfKnown (λ old. IsSlot engine.session.catalogue.tables engine.slots.b old.now.seen) (D.known devices.old.slot_b)) }
-    ensures no_store { IsErrOf result RecoverError.NoStore → HasNoStore (each D.known devices.old) }
-    ensures log_damage { (at : ℕ) (kind : ALogDamage) → IsErrOf result (RecoverError.Damaged (InLog at kind)) → HasDamage (InLog at kind) (each D.known devices.old) }
-    ensures slot_damage { (slot : ASlotName) (at : ℕ) (kind : ASlotDamage) → IsErrOf result (RecoverError.Damaged (InSlot slot at kind)) → HasDamage (InSlot slot at kind) (each D.known devices.old) }
-    ensures abort { (note : ANote) → IsErrOf result (RecoverError.AbortInLog note) → IfImagesKnown (AbortsIn note) (each D.known devices.old) }
-    ensures over { (table : List ℕ) (rows most : ℕ) → IsErrOf result (RecoverError.RowsOver table rows most) → (most ≡ limit) × IfImagesKnown (IsOverIn table rows limit) (each D.known devices.old) }
+    ensures refused { IfErr result (AreRefused limit (each D.known devices.old)) }
     ensures same { each D.known devices.new ≡ each D.known devices.old }
-    ensures disk_fault { IsErrOf result RecoverError.DiskFault → OneFaulted (each D.faults devices.old) (each D.faults devices.new) }
-    ensures quiet { ¬ IsErrOf result RecoverError.DiskFault → each D.faults devices.new ≡ each D.faults devices.old }
+    ensures disk_fault { IsErrOf result (RecoverError.Load LoadError.DiskFault) → OneFaulted (each D.faults devices.old) (each D.faults devices.new) }
+    ensures quiet { ¬ IsErrOf result (RecoverError.Load LoadError.DiskFault) → each D.faults devices.new ≡ each D.faults devices.old }
 {
     let Restored {
         catalogue,
@@ -66,11 +56,8 @@ fn engine_over<D: Disk>(
 ///
 /// # Errors
 ///
-/// - [`RecoverError::NoStore`], [`RecoverError::Damaged`], [`RecoverError::AbortInLog`] and [`RecoverError::RowsOver`] exactly
-///   where `recover` answers them.
-/// - [`RecoverError::DiskFault`] where a call of a device failed, so only where the count of faults of one rose; no call of any
-///   device comes after it.
-/// - [`RecoverError::NoMemory`] where there was no memory for what is read, or for the tables.
+/// Those of [`restore`]: what the store holds is refused exactly where `recover` refuses it. A failed device is
+/// [`LoadError::DiskFault`], only where the count of faults of one rose; no call of any device comes after it.
 pub fn open<D: Disk>(
     alloc: Global,
     batch: u32,
@@ -85,11 +72,7 @@ pub fn open<D: Disk>(
     ensures opened { IfOk result (λ engine. IfReadKnown (IsOpenedFrom engine) (D.known devices.old.log) (D.known devices.old.slot_a) (D.known devices.old.slot_b)) }
     ensures fresh { IfOk result (IsFresh batch limit) }
     ensures within { IfOk result (λ engine. first_over limit (length engine.session.catalogue.tables) engine.session.tables ≡ None) }
-    ensures no_store { IsErrOf result RecoverError.NoStore → HasNoStore (each D.known devices.old) }
-    ensures log_damage { (at : ℕ) (kind : ALogDamage) → IsErrOf result (RecoverError.Damaged (InLog at kind)) → HasDamage (InLog at kind) (each D.known devices.old) }
-    ensures slot_damage { (slot : ASlotName) (at : ℕ) (kind : ASlotDamage) → IsErrOf result (RecoverError.Damaged (InSlot slot at kind)) → HasDamage (InSlot slot at kind) (each D.known devices.old) }
-    ensures abort { (note : ANote) → IsErrOf result (RecoverError.AbortInLog note) → IfImagesKnown (AbortsIn note) (each D.known devices.old) }
-    ensures over { (table : List ℕ) (rows most : ℕ) → IsErrOf result (RecoverError.RowsOver table rows most) → (most ≡ limit) × IfImagesKnown (IsOverIn table rows limit) (each D.known devices.old) }
+    ensures refused { IfErr result (AreRefused limit (each D.known devices.old)) }
 
     // The engine stands for what was stored, at each moment a crash leaves what it might have left at entry, and a read gives
     // what it gave, whatever the answer.
@@ -99,12 +82,12 @@ pub fn open<D: Disk>(
     ensures seen { known_reads (each D.known devices.new) ≡ known_reads (each D.known devices.old) }
 
     // No device is written, and no call of one comes after one that failed.
-    ensures settled { ¬ IsErrOf result RecoverError.DiskFault → IfAllKnown AreSettled (each D.known devices.old) (each D.known devices.new) }
-    ensures disk_fault { IsErrOf result RecoverError.DiskFault → OneFaulted (each D.faults devices.old) (each D.faults devices.new) }
-    ensures quiet { ¬ IsErrOf result RecoverError.DiskFault → each D.faults devices.new ≡ each D.faults devices.old }
+    ensures settled { ¬ IsErrOf result (RecoverError.Load LoadError.DiskFault) → IfAllKnown AreSettled (each D.known devices.old) (each D.known devices.new) }
+    ensures disk_fault { IsErrOf result (RecoverError.Load LoadError.DiskFault) → OneFaulted (each D.faults devices.old) (each D.faults devices.new) }
+    ensures quiet { ¬ IsErrOf result (RecoverError.Load LoadError.DiskFault) → each D.faults devices.new ≡ each D.faults devices.old }
 {
     match devices.sync() {
         Ok(()) => engine_over(alloc, batch, limit, devices),
-        Err(_) => Err(RecoverError::DiskFault),
+        Err(_) => Err(RecoverError::Load(LoadError::DiskFault)),
     }
 }

@@ -1,42 +1,31 @@
 // Why a run stops before its end.
 ghost use Rattle.std.specs.Prelude.{◌≡◌};
 ghost use Rattle.pac_engine.specs.declared.fault.EngineCause.TheVariants.{Ended};
-ghost use Rattle.pac_run.specs.Causes.{stop_of_engine, stop_of_opening, stop_of_read};
-ghost use Rattle.pac_run.specs.declared.stop.RunStop.TheVariants.{NoMemory as OutOfMemory};
+ghost use Rattle.pac_run.specs.Causes.{stop_of_engine, stop_of_read};
+ghost use Rattle.pac_run.specs.declared.stop.RunStop.TheVariants.{NoMemory as OutOfMemory, Opening};
 
 use pac_base::NoMemory;
 use pac_engine::EngineCause;
 use pac_lines::LineError;
-use pac_ops::Note;
-use pac_recover::{Damage, RecoverError};
-use pac_value::Name;
+use pac_recover::RecoverError;
 use thiserror::Error;
 
 /// Why a run stops before its end.
 #[derive(Clone, Copy, Debug, PartialEq, Eq, Error)]
 pub enum RunStop {
-    /// The first device doesn't begin as a log does.
-    #[error("no store")]
-    NoStore,
-    /// This is the first damage of the store.
-    #[error("damaged {0}")]
-    Damaged(Damage),
-    /// A stored transaction aborts.
-    #[error("transaction {} aborts", .0.txn)]
-    AbortInLog(Note),
-    /// After the stored transactions a table has more rows than the limit: the first such one, by its name.
-    #[error("a table has {rows} rows, over {limit}")]
-    RowsOver { table: Name, rows: u64, limit: u64 },
+    /// The store isn't opened.
+    #[error("{0}")]
+    Opening(RecoverError),
     /// The input failed.
     #[error("the input failed")]
     InputFault,
     /// The output failed.
     #[error("the output failed")]
     OutputFault,
-    /// A call of a device failed.
+    /// A call of a device failed once the store was open.
     #[error("a device failed")]
     DiskFault,
-    /// An allocation was refused.
+    /// An allocation was refused then.
     #[error("out of memory")]
     NoMemory,
     /// The log would have that many bytes.
@@ -58,21 +47,11 @@ impl From<NoMemory> for RunStop {
     }
 }
 
-// The store isn't opened.
 impl From<RecoverError> for RunStop {
-    ghost from_gives = { λ error stop. stop ≡ stop_of_opening error };
+    ghost from_gives = { λ error stop. stop ≡ Opening error };
 
     fn from(error: RecoverError) -> Self {
-        match error {
-            RecoverError::NoStore => RunStop::NoStore,
-            RecoverError::Damaged(damage) => RunStop::Damaged(damage),
-            RecoverError::AbortInLog(note) => RunStop::AbortInLog(note),
-            RecoverError::RowsOver { table, rows, limit } => {
-                RunStop::RowsOver { table, rows, limit }
-            }
-            RecoverError::DiskFault => RunStop::DiskFault,
-            RecoverError::NoMemory => RunStop::NoMemory,
-        }
+        RunStop::Opening(error)
     }
 }
 

@@ -6,7 +6,6 @@ use Rattle.pac_ops.specs.declared.batch.Batch.{Batch}
 use Rattle.pac_ops.specs.declared.transaction.Txn.{Txn}
 use Rattle.pac_base.specs.declared.refusal.Refusal.{Refusal}
 use Rattle.pac_base.specs.declared.refusal.Refusal.TheVariants.{Fault, NoMemory}
-use Rattle.pac_types.specs.CatalogueText.{HasCatalogue}
 use Rattle.pac_types.specs.Typing.{CatalogueState}
 use Rattle.pac_request.specs.Answers.{AnswersBy}
 use Rattle.pac_script.specs.Lines.{lines}
@@ -18,10 +17,10 @@ use Rattle.pac_script.specs.declared.step.ScriptStep.{ScriptStep}
 use Rattle.pac_script.specs.declared.step.ScriptStep.TheVariants.{Add, Flush}
 use Rattle.pac_script.specs.Batches.{fits, step_of, steps, AreCutInto}
 use Rattle.pac_script.specs.Cutting.{Cut, flushed, with_last, cut_all, nothing_cut, next_txn}
-use Rattle.pac_script.specs.Script.{Accepts, HasBatches, IsPartsFault, PartsSay, lines_after}
+use Rattle.pac_script.specs.Script.{Accepts, HasBatches, IsPartsFault, IsUnaccepted, PartsSay, lines_after}
 use Rattle.pac_types.specs.Accepted.{IsAccepted}
 use Rattle.pac_request.specs.ScriptLines.{ScriptLineSays}
-use Rattle.pac_script.specs.ScriptReading.{step_cut, asked_cut, IsSmallStep, IsSmallAsked, IsExcessFault, IsLineFault, IsLinesFault}
+use Rattle.pac_script.specs.ScriptReading.{step_cut, asked_cut, IsSmallStep, IsSmallAsked, IsLineFault, IsLinesFault}
 use Rattle.pac_script.proofs.CutLemmas.{AllSmall, are_batches}
 
 -- ---- what lines ask, one after another
@@ -171,10 +170,16 @@ line-parts prefix following catalogue (Line number fault) few is = (catalogue, f
 line-parts prefix following catalogue (Catalogue fault) few is = absurd is
 line-parts prefix following catalogue (TooManyOps name count) few is = absurd is
 
-pub excess-parts : (prefix following : List ℕ) (catalogue : CatalogueState) (fault : ScriptFault) → HasCatalogue prefix catalogue → IsExcessFault catalogue fault → IsPartsFault prefix following fault
-excess-parts prefix following catalogue (TooManyOps name count) has is = (catalogue, has, is)
-excess-parts prefix following catalogue (Catalogue fault) has is = absurd is
-excess-parts prefix following catalogue (Line number fault) has is = absurd is
+unaccepted-parts : (prefix following : List ℕ) (fault : ScriptFault) → IsUnaccepted prefix fault → IsPartsFault prefix following fault
+unaccepted-parts prefix following (Catalogue fault) is = is
+unaccepted-parts prefix following (TooManyOps name count) is = is
+unaccepted-parts prefix following (Line number fault) is = absurd is
+
+-- the parts of a text that isn't accepted
+pub refused-parts : (prefix following : List ℕ) (error : Refusal ScriptFault) → ((fault : ScriptFault) → ◌≡◌ {A = Result CatalogueState (Refusal ScriptFault)} (Err error) (Err (Fault fault)) → IsUnaccepted prefix fault)
+    → AnswersBy (PartsSay prefix following) (Err error)
+refused-parts prefix following (Fault fault) is = unaccepted-parts prefix following fault (is fault refl)
+refused-parts prefix following NoMemory is = tt
 
 -- the parts of a text whose catalogue has few operations
 pub few-parts : (prefix following : List ℕ) (catalogue : CatalogueState) (r : Result Script (Refusal ScriptFault)) → IsAccepted prefix catalogue

@@ -74,6 +74,12 @@ pub record IsExcess (procs : List Proc) (name : List ℕ) (count : ℕ) : Type 0
   pub first : IsFirstExcess procs number count
   pub named : option_map (λ proc. proc.name) (slice_get procs number) ≡ Some name
 
+-- a text isn't accepted for this: its first fault where it has no catalogue, or the first procedure at which operations are too many
+abbrev pub IsUnaccepted : List ℕ → ScriptFault → Type 0
+IsUnaccepted text (Catalogue fault) = IsCatalogueFault text fault
+IsUnaccepted text (TooManyOps name count) = (catalogue : CatalogueState) × HasCatalogue text catalogue × IsExcess catalogue.procs name count
+IsUnaccepted text (Line number fault) = ⊥
+
 -- The first fault of the text before the mark and of the lines after it: that of the catalogue's text; where that has a catalogue, the
 -- first procedure at which operations are too many; and where they are few, the first line that is refused.
 abbrev pub IsPartsFault : List ℕ → List ℕ → ScriptFault → Type 0

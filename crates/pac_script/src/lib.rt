@@ -2,7 +2,8 @@
 //!
 //! - [`read_script`]: the [`Script`] that a text is, a catalogue and batches of transactions that fit it; or its first
 //!   [`ScriptFault`].
-//! - [`excess_fault`]: too many operations of a catalogue, as a script's fault.
+//! - [`read_accepted`]: the catalogue of a text, where a database takes it. [`excess_fault`]: too many operations of a catalogue, as
+//!   a script's fault.
 //! - [`stress_txn`]: the transactions of the stress test.
 //!
 //! ```
@@ -18,6 +19,7 @@
 //! time (`specs/Cutting.antt`, `specs/ScriptReading.antt`); no public clause names these.
 #![tactic(auto)]
 
+mod accepted;
 mod batcher;
 mod lines;
 mod script;
@@ -25,6 +27,7 @@ mod script_fault;
 mod step;
 mod stress;
 
+pub use accepted::read_accepted;
 pub use script::{Script, read_script};
 pub use script_fault::{ScriptError, ScriptFault, excess_fault};
 pub use stress::stress_txn;

@@ -2,7 +2,6 @@
 ghost use Rattle.std.specs.Prelude.{◌≡◌, ℕ, List, Option, IfOk, IsOk, IsErrOf, Some, None, Result, Ok, Err};
 ghost use Rattle.pac_base.specs.Refusals.{Reports};
 ghost use Rattle.pac_base.specs.declared.refusal.Refusal.TheVariants as error;
-ghost use Rattle.pac_types.specs.OperationLimits.{HasFewOperations};
 ghost use Rattle.pac_request.specs.Answers.{AnswersBy};
 ghost use Rattle.pac_script.specs.Lines.{lines};
 ghost use Rattle.pac_script.specs.BatchFits.{BatchesFit, BatchesHaveNumbers};
@@ -10,16 +9,16 @@ ghost use Rattle.pac_script.specs.Script.{HasBatches, PartsSay, ScriptSays, line
 ghost use Rattle.pac_request.specs.ScriptLines.{ScriptLineSays};
 ghost use Rattle.pac_script.specs.declared.script.Script.{Script as AScript};
 ghost use Rattle.pac_script.specs.declared.script_fault.ScriptFault.{ScriptFault as AFault};
-ghost use Rattle.pac_script.specs.ScriptReading.{IsExcessFault, IsLineFault, IsLinesFault};
+ghost use Rattle.pac_script.specs.ScriptReading.{IsLineFault, IsLinesFault};
 
+use crate::accepted::read_accepted;
 use crate::batcher::Batcher;
 use crate::lines::{find_mark, first_line};
-use crate::script_fault::{ScriptError, ScriptFault, excess_fault};
+use crate::script_fault::{ScriptError, ScriptFault};
 use pac_base::{Refusal, listed};
-use pac_flat::test_operations;
 use pac_ops::{Batch, Batches};
 use pac_request::{Request, read_script_line};
-use pac_types::{Catalogue, read_catalogue};
+use pac_types::Catalogue;
 use std::alloc::Global;
 
 /// A catalogue, and the batches of its transactions, which are numbered from 1 on.
@@ -91,28 +90,13 @@ fn with_batches(alloc: Global, catalogue: Catalogue, after: &[u8]) -> Result<Scr
     Ok(Script { catalogue, batches })
 }
 
-// That the catalogue has few operations, or the name of the first procedure at which it has too many.
-fn test_limits(catalogue: &Catalogue) -> Result<(), ScriptFault>
-    ensures few { IfOk result (λ _. HasFewOperations catalogue.now.procs) }
-    ensures fault { (fault : AFault) → IsErrOf result fault → IsExcessFault catalogue.now fault }
-{
-    match test_operations(catalogue) {
-        Ok(()) => Ok(()),
-        Err(excess) => Err(excess_fault(catalogue, excess)),
-    }
-}
-
 // The script of the catalogue's text, and of the text after the mark.
 fn read_parts(alloc: Global, prefix: &[u8], after: &[u8]) -> Result<Script, ScriptError>
     ensures { AnswersBy (PartsSay prefix.now after.now) result }
 {
-    match read_catalogue(alloc, prefix) {
-        Ok(catalogue) => match test_limits(&catalogue) {
-            Ok(()) => with_batches(alloc, catalogue, after),
-            Err(fault) => Err(Refusal::Fault(fault)),
-        },
-        Err(Refusal::Fault(fault)) => Err(Refusal::Fault(ScriptFault::Catalogue(fault))),
-        Err(Refusal::NoMemory) => Err(Refusal::NoMemory),
+    match read_accepted(alloc, prefix) {
+        Ok(catalogue) => with_batches(alloc, catalogue, after),
+        Err(error) => Err(error),
     }
 }
 

@@ -2,7 +2,8 @@
 use Rattle.std.proofs.Common.{sym, subst, List, ℕ}
 use Rattle.std.proofs.lemmas.Result.{err_from_is_err_and}
 use Rattle.pac_main.specs.Causes.{GivesNoExplanation}
-use Rattle.pac_main.specs.Explained.{IsExplanation, IsUnexplained}
+use Rattle.pac_main.specs.Explained.{IsExplanation}
+use Rattle.pac_script.specs.Script.{IsUnaccepted}
 use Rattle.pac_main.specs.Streams.{observed}
 use Rattle.pac_main.proofs.InputLemmas.{if_err}
 use Rattle.pac_main.proofs.ExplainLemmas.{input-explained, catalogue-unread, no-explanation}
@@ -26,4 +27,4 @@ returns-in_err-explain-clause-stops g c =
     let source = observed g.I.Source.left g.I.Source.faults c.args.input.now c.read_up_to.new.source in
     if_err (GivesNoExplanation source) c.from_residual-in_err-explain.result p.0 p.1 (subst (GivesNoExplanation source) (sym p.2)
     (no-explanation source _ c.in_ok-text.text.items c.in_err-explain.field-0.0 c.in_ok-text.ensures.bytes c.in_ok-text.ensures.end
-    (λ fault is. subst (λ (text : List ℕ). IsUnexplained text fault) c.deref.ensures.value (c.in_err-explain.ensures.fault fault is))))
+    (λ fault is. subst (λ (text : List ℕ). IsUnaccepted text fault) c.deref.ensures.value (c.in_err-explain.ensures.fault fault is))))

@@ -2,8 +2,7 @@
 use Rattle.std.proofs.Common.{ℕ, Err, Ok, ap, subst, ◌∙◌}
 use Rattle.pac_outside.specs.Causes.{Faulted}
 use Rattle.pac_outside.specs.Devices.{each}
-use Rattle.pac_store.specs.Images.{IfReadKnown}
-use Rattle.pac_recover.specs.Recovering.{IsOverIn}
+use Rattle.pac_recover.specs.Refusals.{AreRefused}
 use Rattle.pac_run.specs.Run.{IsRun}
 use Rattle.pac_main.specs.Streams.{observed}
 use Rattle.pac_main.specs.declared.stop.Stop.{Stop}
@@ -21,7 +20,7 @@ returns-in-Ok-clause-ends g c =
     let errors = observed g.E.Sink.held g.E.Sink.faults c.args.errors.now c.args.errors.now in
     run-done c.args.group_size c.args.limit source sink errors (g.D.Disk.known old.log) (g.D.Disk.known old.slot_a) (g.D.Disk.known old.slot_b) (each g.D.Disk.known new) (each g.D.Disk.faults old) (each g.D.Disk.faults new)
     (subst (λ (n : ℕ). IsRun c.args.group_size n source.before source.after sink.before sink.after (each g.D.Disk.known old) (each g.D.Disk.known new) (Faulted sink.faults_before sink.faults_after) (Ok tt)) c.from.ensures c.in-Ok.ensures.run)
-    (c.in-Ok.ensures.quiet (λ e. absurd cc))
+    (c.in-Ok.ensures.quiet (λ e. e))
 
 pub returns-in-Err-clause-ends : goal.returns-in-Err-clause-ends
 returns-in-Err-clause-ends g c =
@@ -37,11 +36,7 @@ returns-in-Err-clause-ends g c =
     why c.report.result c.status.result c.status.ensures (subst (λ (s : Stop). Reported s c.report.result) c.from-in-Err.ensures c.report.ensures.which)
     (subst (λ (n : ℕ). IsRun c.args.group_size n source.before source.after sink.before sink.after (each g.D.Disk.known old) (each g.D.Disk.known new) (Faulted sink.faults_before sink.faults_after) (Err why)) same h.run)
     (run-cause c.args.limit source sink (g.D.Disk.known old.log) (g.D.Disk.known old.slot_a) (g.D.Disk.known old.slot_b) (each g.D.Disk.faults old) (each g.D.Disk.faults new) (each g.D.Disk.known new) why (record {
-      no_store = h.no_store;
-      log_damage = h.log_damage;
-      slot_damage = h.slot_damage;
-      abort = h.abort;
-      over = λ table rows most is. let o = h.over table rows most is in (o.0 ∙ same, subst (λ (n : ℕ). IfReadKnown (IsOverIn table rows n) (g.D.Disk.known old.log) (g.D.Disk.known old.slot_a) (g.D.Disk.known old.slot_b)) same o.1);
+      refused = λ error is. subst (λ (n : ℕ). AreRefused n (each g.D.Disk.known old) error) same (h.refused error is);
       input_fault = h.input_fault;
       output_fault = h.output_fault;
       disk_fault = h.disk_fault;

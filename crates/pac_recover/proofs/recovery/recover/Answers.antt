@@ -8,11 +8,4 @@ returns-clause-stands g c =
     let a = g.D.Disk.known c.args.devices.now.slot_a in
     let b = g.D.Disk.known c.args.devices.now.slot_b in
     let h = c.recover_by_windows.ensures in
-    recovers c.args.limit c.recover_by_windows.result log a b (record {
-      recovered = h.recovered;
-      no_store = h.no_store;
-      log_damage = h.log_damage;
-      slot_damage = h.slot_damage;
-      abort = h.abort;
-      over = h.over;
-    })
+    recovers c.args.limit c.recover_by_windows.result log a b h.recovered h.refused
