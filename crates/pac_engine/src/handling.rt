@@ -18,10 +18,9 @@ ghost use Rattle.pac_engine.specs.declared.parts.EngineParts.{EngineParts as APa
 
 use crate::{EngineCause, EngineFault, EngineParts};
 use pac_base::NoMemory;
-use pac_ops::Txn;
 use pac_outside::{Devices, Disk};
 use pac_request::{Replies, Reply, Request};
-use pac_session::transaction_of;
+use pac_session::{Measured, transaction_of};
 use std::alloc::Global;
 
 // A fault before which no reply was given out.
@@ -90,7 +89,7 @@ impl EngineParts {
     fn execute_anew<D: Disk>(
         &mut self,
         alloc: Global,
-        txn: Txn,
+        txn: Measured,
         devices: &mut Devices<D>,
     ) -> Result<Replies, EngineFault>
         requires live { IsLive self.old }
@@ -117,7 +116,7 @@ impl EngineParts {
     fn execute<D: Disk>(
         &mut self,
         alloc: Global,
-        txn: Txn,
+        txn: Measured,
         devices: &mut Devices<D>,
     ) -> Result<Replies, EngineFault>
         requires live { IsLive self.old }
@@ -223,7 +222,7 @@ impl EngineParts {
         ensures small { request ≡ ARequest.Save → OnOk result (slot_len (rules_of self.old.session) (state_now self.old.session) (place_after_group self.old.log.gate.place self.old.session.txns) ≤ MAX_SLOT_LEN) }
     {
         match transaction_of(request) {
-            Ok(txn) => self.execute(alloc, txn, devices),
+            Ok(txn) => self.execute(alloc, Measured::of(txn), devices),
             Err(Request::Save) => self.checkpoint(alloc, devices),
             Err(other) => self.answer(alloc, other, devices),
         }

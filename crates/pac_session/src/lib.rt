@@ -4,12 +4,14 @@
 //!   [`Session::answer`] answers another request, [`Session::close`] returns a group and begins the next.
 //! - [`Session::reuse`] takes the transactions back once they are stored, and [`Session::spare_args`] gives the room of their
 //!   arguments to those of a later call.
-//! - [`transaction_of`]: the transaction that a request asks for, or the request itself where it asks for none.
+//! - [`transaction_of`]: the transaction that a request asks for, or the request itself where it asks for none. [`Measured`]: a
+//!   transaction with the length of its entry.
 //!
 //! ```
-//! use pac_session::Session;
+//! use pac_session::{Measured, Session};
 //!
 //! let mut session = Session::new(alloc, cat, rows, 0, 64, 1_000_000); // groups of 64 replies, tables of 1,000,000 rows
+//! let txn = Measured::of(txn);
 //! if !session.lacks_room(&txn) && !session.is_full() {
 //!     session.run(txn)?;
 //! }
@@ -27,8 +29,10 @@
 mod asked;
 mod execute;
 mod law;
+mod measured;
 mod session;
 
 pub use asked::transaction_of;
 pub use law::{a_session_is_serial, groups_are_a_cut};
+pub use measured::Measured;
 pub use session::Session;

@@ -16,8 +16,9 @@ ghost use Rattle.pac_session.specs.Groups.{lacks_room};
 ghost use Rattle.pac_session.specs.Open.{with_asked, with_closed, with_run};
 
 use crate::execute::execute;
+use crate::measured::Measured;
 use pac_base::{Exact, NoMemory};
-use pac_entry::{BODY_HEAD_LEN, MAX_BODY_LEN, entry_len};
+use pac_entry::{BODY_HEAD_LEN, MAX_BODY_LEN};
 use pac_ops::Txn;
 use pac_request::{Replies, Reply, Request};
 use pac_serial::{ExecError, RunningTxn};
@@ -117,12 +118,11 @@ impl Session {
     }
 
     /// Whether the body of the open group has no room for the entry of a transaction. A group without transactions has it.
-    /// Linear in the transaction's values.
-    pub fn lacks_room(&self, txn: &Txn) -> bool
+    pub fn lacks_room(&self, txn: &Measured) -> bool
         ensures test { result ≡ lacks_room self.now.txns (ASome txn.now) }
         ensures alone { lacks_room [] (ASome txn.now) ≡ false }
     {
-        self.len + entry_len(txn) > MAX_BODY_LEN
+        self.len + txn.len() > MAX_BODY_LEN
     }
 
     /// Whether the open group has as many replies as it may hold.
@@ -139,7 +139,7 @@ impl Session {
     ///
     /// [`NoMemory`] alone. The transaction may be executed then without being held: nothing more may be asked of the
     /// session.
-    pub fn run(&mut self, txn: Txn) -> Result<(), NoMemory>
+    pub fn run(&mut self, txn: Measured) -> Result<(), NoMemory>
         requires fits { TxnFits self.old.catalogue txn }
         requires room { lacks_room self.old.txns (ASome txn) ≡ false }
         requires few { length self.old.held < self.old.most }
@@ -147,7 +147,7 @@ impl Session {
     {
         match execute(
             &self.catalogue,
-            &txn,
+            txn.txn(),
             self.limit,
             &mut self.rows,
             &mut self.running,
@@ -160,7 +160,7 @@ impl Session {
     }
 
     // A transaction that was executed joins the open group.
-    fn commit(&mut self, txn: Txn) -> Result<(), NoMemory>
+    fn commit(&mut self, txn: Measured) -> Result<(), NoMemory>
         requires fits { TxnFits self.old.catalogue txn }
         requires room { lacks_room self.old.txns (ASome txn) ≡ false }
         requires few { length self.old.held < self.old.most }
@@ -168,8 +168,8 @@ impl Session {
     {
         let number = self.before + self.txns.len() as u64 + 1;
         self.held.push(Reply::Committed { txn: number })?;
-        let len = entry_len(&txn);
-        self.txns.push(txn)?;
+        let len = txn.len();
+        self.txns.push(txn.into_txn())?;
         self.len += len;
         Ok(())
     }
