@@ -133,7 +133,11 @@ fn answer<O: Sink, D: Disk>(
 {
     match engine.step(asked, devices) {
         Ok(replies) => {
-            let text = reply_texts(alloc, catalogue, replies.items())?;
+            let given = replies.items();
+            if given.is_empty() {
+                return Ok(());
+            }
+            let text = reply_texts(alloc, catalogue, given)?;
             write(output, &text)
         }
         Err(fault) => {
