@@ -100,7 +100,7 @@ synced() {
     dd if=/dev/zero of=synced bs="$1" count="$2" oflag=dsync 2>&1 | tail -1
 }
 
-# A command by so many workers, with an input, whose output isn't looked at.
+# A command by N workers, with an input, whose output isn't looked at.
 run_with() { "$pacman" "$2" --workers "$1" < "$3" > /dev/null; }
 
 run_replay() { "$pacman" replay < "$1" > /dev/null; }

@@ -1,4 +1,4 @@
--- Sorted entries of queues are in order: those of one queue together, ascending by access, modifications behind reads.
+-- Sorted entries of queues are in order: those of one queue together, ascending by access, modifications after reads.
 use Rattle.std.proofs.Common.{◌≡◌, ℕ, ◌<◌, ◌≤◌, Bool, true, false, List, length, Option, Some, None, refl, sym, ap, ◌∙◌, subst, true≢false, arith}
 use Rattle.std.specs.Prelude.{nat_lt}
 use Rattle.std.specs.declared.cmp.Ordering.{Ordering}

@@ -59,7 +59,7 @@ writes_in x (Some a) = writes_key x a
 abbrev pub entry : List Queued → ℕ → Queued
 entry queued p = slice_index_or queued p (queued_block 0 false)
 
--- the entries of one queue stand together, ascending by access, the modifications of an access behind its reads
+-- the entries of one queue stand together, ascending by access, the modifications of an access after its reads
 pub record AreInOrder (queued : List Queued) : Type 0 where
   pub together : (p m q : ℕ) → p ≤ m → m ≤ q → q < length queued → (entry queued p).row ≡ (entry queued q).row → (entry queued p).row ≡ (entry queued m).row
   pub ascend : (p q : ℕ) → p ≤ q → q < length queued → (entry queued p).row ≡ (entry queued q).row → (entry queued p).index ≤ (entry queued q).index

@@ -46,7 +46,7 @@ fn read_body(alloc: Global, cat: &Catalogue, bytes: &[u8]) -> Result<usize, Entr
     Ok(at)
 }
 
-/// Writes the body so often, into one list that is cleared; the bytes that were written.
+/// Writes the body `rounds` times, into one list that is cleared; returns how many bytes were written.
 pub fn write(alloc: Global, rounds: u32) -> Result<u64, PartError> {
     let txns = calls(alloc)?;
     let mut out = Vec::new(alloc);
@@ -59,7 +59,7 @@ pub fn write(alloc: Global, rounds: u32) -> Result<u64, PartError> {
     Ok(total)
 }
 
-/// Reads the body so often; the bytes that were read.
+/// Reads the body `rounds` times; returns how many bytes were read.
 pub fn read(alloc: Global, rounds: u32) -> Result<u64, PartError> {
     let cat = read_catalogue(alloc, CATALOGUE)?;
     let mut bytes = Vec::new(alloc);
@@ -72,7 +72,7 @@ pub fn read(alloc: Global, rounds: u32) -> Result<u64, PartError> {
     Ok(total)
 }
 
-/// Copies the body so often, into one list that is cleared; the bytes that were copied.
+/// Copies the body `rounds` times, into one list that is cleared; returns how many bytes were copied.
 pub fn copy(alloc: Global, rounds: u32) -> Result<u64, PartError> {
     let mut bytes = Vec::new(alloc);
     write_body(&calls(alloc)?, &mut bytes)?;

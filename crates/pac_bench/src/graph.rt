@@ -67,7 +67,7 @@ fn plan_of(alloc: Global, cat: &Catalogue) -> Result<Plan, PartError> {
     Ok(global(alloc, cat, programs)?)
 }
 
-/// Makes the slices and blocks of such a catalogue so often; the blocks that there were.
+/// Makes the slices and blocks of such a catalogue `rounds` times; returns how many blocks there were.
 pub fn make(alloc: Global, shape: Shape, rounds: u32) -> Result<u64, PartError> {
     let text = match shape {
         Shape::OneTable => puts(alloc, 1)?,

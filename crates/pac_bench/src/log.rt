@@ -88,7 +88,7 @@ fn made<R: Files<File = File>>(
     }
 }
 
-/// Commits a batch of this load so often, to a log that it makes first; the transactions that were committed.
+/// Commits a batch of this load `rounds` times, to a log that it makes first; returns how many transactions were committed.
 pub fn commit<R: Files<File = File>>(
     alloc: Global,
     disk: &mut FileDisk<'_, R>,

@@ -1,7 +1,7 @@
-//! What the README's figures are measured with: some part of the database, made so often that it can be timed from
-//! outside. It prints how much was made.
+//! Micro-benchmarks of single parts of the database, for the figures of docs/COSTS.md. Each runs a part for a number of rounds,
+//! so that it can be timed from outside, and prints how much was done.
 //!
-//! The words are a part and a number of rounds. In a round of `write`, `read` and `copy` a body of 1,024 calls is made of
+//! The arguments are a part and a number of rounds. In a round of `write`, `read` and `copy` a body of 1,024 calls is made of
 //! its transactions, read into them, or copied as it stands, which is what the other two are compared with. In one of
 //! `table`, `tables` and `chain` the graph is made of a catalogue with 4,096 operations: all on one table, on 64 tables,
 //! or each with the value of the one before it.
@@ -35,7 +35,7 @@ use std::{env, io};
 const USAGE: &str =
     "usage: pac_bench write|read|copy|table|tables|chain|commit|commits|fill|scan|save|few|few_limited|many|many_limited|txns|sets|accesses|pairs|queue|long_queue ROUNDS";
 
-// The part and the rounds that the words ask for.
+// The part and the rounds that the arguments ask for.
 fn asked(words: &[String]) -> Option<(Part, u32)> {
     let [part, rounds] = words else {
         return None;
@@ -43,7 +43,7 @@ fn asked(words: &[String]) -> Option<(Part, u32)> {
     Some((Part::named(part.as_str())?, rounds.parse::<u32>().ok()?))
 }
 
-// Makes a part so often; how much was made.
+// Runs a part for a number of rounds; returns how much was done.
 fn make(rt: &HostRuntime, part: Part, rounds: u32) -> Result<u64, PartError> {
     let alloc = rt.alloc();
     let mut disk = FileDisk::new(rt, "pac_bench.log"); // nothing is opened yet

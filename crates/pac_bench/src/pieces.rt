@@ -133,7 +133,7 @@ pub fn make(alloc: Global, depth: Depth, rounds: u32) -> Result<u64, PartError> 
     Ok(total)
 }
 
-// The accesses of so many pieces that modify one row.
+// The accesses of `pieces` pieces that modify one row.
 fn one_row(alloc: Global, pieces: u16) -> Result<Vec<Access>, NoMemory> {
     let mut accesses = Vec::new(alloc);
     for _ in 0..pieces {
@@ -148,7 +148,7 @@ fn one_row(alloc: Global, pieces: u16) -> Result<Vec<Access>, NoMemory> {
     Ok(accesses)
 }
 
-/// Makes the next pairs of so many pieces that modify one row so often; the pairs of a round.
+/// Makes the next pairs of `pieces` pieces that modify one row, `rounds` times; returns the pairs of a round.
 pub fn queue(alloc: Global, pieces: u16, rounds: u32) -> Result<u64, PartError> {
     let accesses = one_row(alloc, pieces)?;
     if accesses.len() > 65_535 {

@@ -53,7 +53,7 @@ pub fn filled(
     Ok(rows)
 }
 
-// Puts these records so often.
+// Puts these records `rounds` times.
 fn put_often(
     alloc: Global,
     cat: &Catalogue,
@@ -71,7 +71,7 @@ fn put_often(
     Ok(())
 }
 
-/// Executes 1,000 transactions so often, each of which puts a row where one is; the transactions.
+/// Executes 1,000 transactions `rounds` times, each of which puts a row where one is; returns how many.
 pub fn execute(alloc: Global, held: Held, rounds: u32) -> Result<u64, PartError> {
     let cat = read_catalogue(alloc, CATALOGUE)?;
     let mut rows = filled(alloc, &cat, VALUES, held.rows)?;

@@ -36,7 +36,7 @@ impl Model for Pieces {
     ghost invariant = { λ p. (p.passed ≤ vec_len p.buffer) × (p.base + vec_len p.buffer < 2 ^ 64) };
 }
 
-// Removes that many bytes from the front of a list.
+// Removes the first `count` bytes of a list.
 fn forget_front(buffer: &mut Vec<u8>, count: usize)
     requires { count ≤ length buffer.old.items }
     ensures { buffer.new.items ≡ drop count buffer.old.items }

@@ -1,4 +1,4 @@
--- The sets of a batch stand behind those of the batches before it, in order; and their pieces are as many as the batch adds.
+-- The sets of a batch stand after those of the batches before it, in order; and their pieces are as many as the batch adds.
 use Rattle.std.proofs.Common.{◌≡◌, ℕ, ◌+◌, ◌-◌, ◌<◌, ◌==◌, Bool, true, false, cond, is_lt, List, [], ◌∷◌, ◌++◌, map, length, Some, refl, sym, ap, ap₂, subst, ◌∙◌, true≢false, inl, inr, arith}
 use Rattle.std.specs.Prelude.{filter, slice_get, sum_by, IsSome, T}
 use Rattle.std.specs.declared.cmp.Ordering.TheVariants.{Less, Equal, Greater}

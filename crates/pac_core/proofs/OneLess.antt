@@ -15,7 +15,7 @@ not_below p (inl lt) = omega (arith, lt)
 not_below p (inr both) = let lt = both.1 in omega (arith, lt)
 
 module _ (p : PieceId) (f g : PieceId → Bool) (was : f p ≡ true) (is : g p ≡ false) (others : (q : PieceId) → is_piece p q ≡ false → f q ≡ g q) where
-  -- a piece that stands in the list doesn't stand behind itself
+  -- a piece that stands in the list doesn't stand after itself
   differs : (q : PieceId) (qs : List PieceId) → Each (Below p) qs → Mem q qs → is_piece p q ≡ false
   differs q qs below m = unlike _ (λ same. not_below p (subst (Below p) (sym (same_piece p q same)) (mem_each (Below p) qs below q m)))
 

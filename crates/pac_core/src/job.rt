@@ -20,7 +20,7 @@ pub struct Job<R: Rows> {
     pub batches: Batches,
 }
 
-/// Batches, to be taken one after another from the front.
+/// Batches, to be taken one after another from the first on.
 ///
 /// # Errors
 ///

@@ -90,7 +90,7 @@ impl Progress {
     }
 }
 
-// How many pieces sets have. `None`: more than a count can tell.
+// How many pieces sets have. `None`: more than a count can hold.
 fn count(sets: &[PieceSet]) -> Option<u64>
     ensures { IfSome result (λ pieces. pieces ≡ sum_by (λ (set : APieceSet). length set.txns) sets.now) }
 {

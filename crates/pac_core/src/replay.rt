@@ -110,7 +110,7 @@ impl<R: Rows> Core<R> {
     ///
     /// # Errors
     ///
-    /// [`NoMemory`] with the batch, where its pieces find no room, or would be more than a count can tell. Nothing is
+    /// [`NoMemory`] with the batch, where its pieces find no room, or would be more than a count can hold. Nothing is
     /// changed.
     pub fn load(&mut self, batch: Batch) -> Result<(), (Batch, NoMemory)>
         requires may { MayLoad self.old batch }

@@ -11,7 +11,7 @@ use pac_plan::Code;
 use pac_sched::Pick;
 use pac_sets::SetId;
 
-// Running so many operations costs about as much as handing a piece out.
+// How many operations cost about as much as handing a piece out.
 const HANDING_OUT: usize = 8;
 
 /// What code weighs: how many operations or records it has beyond those that cost as much as handing it out.

@@ -15,7 +15,7 @@ use Rattle.pac_engine.specs.Standing.{HasDevices}
 pub same-cause : {T : Type 0} {a b : EngineCause} → ◌≡◌ {A = Result T EngineCause} (Err a) (Err b) → a ≡ b
 same-cause e = cc
 
--- want of memory is no fault of a device
+-- being out of memory is no fault of a device
 pub memory-no-disk : NoMemory ≡ DiskFault → ⊥
 memory-no-disk e = cc
 

@@ -158,7 +158,7 @@ impl Engine {
         ensures kept_before { IfErr result (λ fault. AllByRecursion (IsKept self.new) fault.replies) }
         ensures durable { OnOk result (durable_of self.new ≡ self.new.session.before) }
 
-        // Where a device failed only a save gives out replies before, those of its group.
+        // Where a device failed only a save returns replies, those of the group before it.
         ensures given { IfErr result (λ fault. fault.cause ≡ EngineCause.DiskFault → GivesBefore request self.old.session fault.replies) }
 
         // Only a save calls a slot.

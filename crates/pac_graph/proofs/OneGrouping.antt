@@ -17,7 +17,7 @@ not_both p q (inl lt) (inr same) = omega (arith, lt, same.0)
 not_both p q (inr same) (inl gt) = omega (arith, same.0, gt)
 not_both p q (inr same) (inr back) = omega (arith, same.1, back.1)
 
--- a member is the first pair, or one behind it
+-- a member is the first pair, or one after it
 member : (p q : ℕ × ℕ) (qs : List (ℕ × ℕ)) → ArePairsAscending (q ∷ qs) → Contains (q ∷ qs) p → (q ≡ p) ⊎ (IsPairBelow q p × Contains qs p)
 member p q qs ascend (zero, within, is) = inl is
 member p q qs ascend (suc k, within, is) = inr (subst (λ r. IsPairBelow q r) is (ascend 0 (suc k) p (omega arith) within), (k, omega (arith, within), is))

@@ -41,7 +41,7 @@ AsksExplain arguments = (with_text : Bool) × IsExplain arguments with_text
 abbrev pub IsReplay : List (String Global) → ℕ → Type 0
 IsReplay arguments limit = (workers : ℕ) × (command_in arguments ≡ Some (Replay workers limit))
 
--- the arguments are `stress`, with so many transactions and any number of workers
+-- the arguments are `stress`, with this number of transactions and any number of workers
 abbrev pub IsStress : List (String Global) → ℕ → Type 0
 IsStress arguments count = (workers : ℕ) × (command_in arguments ≡ Some (Stress count workers))
 

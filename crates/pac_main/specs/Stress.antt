@@ -5,7 +5,7 @@ use Rattle.pac_stress.specs.Stressed.{AbortsStress, IsSummaryOf}
 use Rattle.pac_main.specs.Streams.{Observed, AnyFaulted, IsTaken, IsPrefixTaken, IsReported, IsOneOf}
 use Rattle.pac_main.specs.Stop.{abort_line}
 
--- how `stress` ends with so many transactions: the statuses that it may have, and a line for each that has a cause
+-- how `stress` ends with this number of transactions: the statuses that it may have, and a line for each that has a cause
 pub record StressEnds (count status : ℕ) (output errors : Observed) : Type 0 where
   pub statuses : IsOneOf status (0 ∷ 4 ∷ 7 ∷ 9 ∷ [])
   pub done : status ≡ 0 → IsSummaryOf count (IsTaken output)

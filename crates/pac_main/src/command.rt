@@ -31,18 +31,18 @@ use std::thread::Threads;
 /// Does what the arguments say, and answers the program's exit status.
 ///
 /// - `replay [--workers N] [--rows N]` reads a script from the input, to its end or to 67,108,865 bytes, executes its
-///   transactions by so many workers, from 1 to 64, or 4, from no rows on, and writes the tables where none has more rows than
+///   transactions by N workers, from 1 to 64, or 4, from no rows on, and writes the tables where none has more rows than
 ///   `--rows` says, or 1,000,000. What it writes doesn't depend on the workers: it is what serial execution gives. Time is near
 ///   linear in the script and in the operations that its transactions execute.
 /// - `explain` and `explain --text` do what [`crate::explain_command`] says.
 /// - `init` does what [`crate::init_command`] says.
 /// - `recover [--workers N] [--rows N]` reads the devices, executes the stored transactions after the newest slot over that
-///   one's tables by so many workers, from 1 to 64, or 4, and writes the tables where none has more rows than `--rows` says, or
+///   one's tables by N workers, from 1 to 64, or 4, and writes the tables where none has more rows than `--rows` says, or
 ///   1,000,000. What it writes doesn't depend on the workers. It reads no input, and no device is written or synced. It reads
-///   the log twice, and holds the batches of 1,048,576 bytes of it in memory.
+///   the log twice, and holds the batches of 4,194,304 bytes of it in memory.
 /// - `run [--batch N] [--rows N]` does what [`crate::run_command`] says.
-/// - `stress N [--workers N]` makes so many transactions of the stress test, from 1 to 100,000, over the catalogue of a bank,
-///   executes them from no rows on, in batches of 64, by so many workers, from 1 to 64, or 4, and writes a summary: how many
+/// - `stress N [--workers W]` makes N transactions of the stress test, from 1 to 100,000, over the catalogue of a bank,
+///   executes them from no rows on, in batches of 64, by W workers, from 1 to 64, or 4, and writes a summary: how many
 ///   transactions and pieces there were, and how many rows each table ends with. What it writes doesn't depend on the workers.
 ///   It reads no input.
 ///

@@ -17,7 +17,7 @@ use std::alloc::Global;
 use std::sync::Wait;
 use std::thread::Threads;
 
-/// The tables with which the transactions of the batches end, from no rows on, by so many workers.
+/// The tables with which the transactions of the batches end, from no rows on, by `workers` workers.
 pub(crate) fn executed<H: Threads + Wait + Sync, G: Gate + Sync>(
     rt: &H,
     alloc: Global,

@@ -103,7 +103,7 @@ fn replay<H: Threads + Wait + Sync, I: Source, O: Sink, G: Gate + Sync>(
     Ok(write_all(output, &text)?)
 }
 
-/// Replays the script that the input holds, by so many workers, and reports why where that stops before its end.
+/// Replays the script that the input holds, by `workers` workers, and reports why where that stops before its end.
 pub(crate) fn replay_input<H: Threads + Wait + Sync, I: Source, O: Sink, E: Sink, G: Gate + Sync>(
     rt: &H,
     alloc: Global,

@@ -15,7 +15,7 @@ use std::alloc::Global;
 use std::sync::Wait;
 use std::thread::Threads;
 
-// Executes so many transactions of the stress test, and writes the summary.
+// Executes `count` transactions of the stress test, and writes the summary.
 fn write_summary<H: Threads + Wait + Sync, O: Sink, G: Gate + Sync>(
     rt: &H,
     alloc: Global,
@@ -33,7 +33,7 @@ fn write_summary<H: Threads + Wait + Sync, O: Sink, G: Gate + Sync>(
     Ok(write_all(output, &text)?)
 }
 
-/// Executes so many transactions of the stress test by so many workers, writes the summary, and reports why where that stops
+/// Executes `count` transactions of the stress test by `workers` workers, writes the summary, and reports why where that stops
 /// before its end.
 pub(crate) fn stress_output<H: Threads + Wait + Sync, O: Sink, E: Sink, G: Gate + Sync>(
     rt: &H,

@@ -7,7 +7,7 @@ pub trait Gate {
     fn enter(&self, worker: u32, txn: u64, block: u16);
 }
 
-/// A gate that holds nobody.
+/// A no-op gate: it never blocks.
 #[derive(Clone, Copy, Debug)]
 pub struct OpenGate;
 

@@ -59,7 +59,7 @@ first_at cell ws i e = record {
     go [] e = cc
     go (w ∷ ws) e = (position-Some (is_at cell) (w ∷ ws) i w e).0
 
--- of a list behind one that is not at the cell
+-- of a list after one that is not at the cell
 later_first : (cell : Cell) (w : Write) (ws : List Write) (i : ℕ) → IsFirstAt cell (w ∷ ws) (suc i) → IsFirstAt cell ws i
 later_first cell w ws i f = record {
   inside = (let lt = f.inside in omega (arith, lt));

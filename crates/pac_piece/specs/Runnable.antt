@@ -32,7 +32,7 @@ pub record IsRunnableOver (block : ℕ) (piece_code : Code) (env : Values) (base
 abbrev pub IsRunnable : Work → Type 0
 IsRunnable work = IsRunnableOver work.piece.block work.code work.env (copied work)
 
--- the code can be run over so many tables: the plan's are among them
+-- the code can be run over this number of tables: the plan's are among them
 pub record IsRunnableOn (block : ℕ) (code : Code) (env : Values) (tables : ℕ) (held : Tables) : Type 0 where
   pub runnable : IsRunnableOver block code env held
   pub among : length runnable.parts.tables ≤ tables

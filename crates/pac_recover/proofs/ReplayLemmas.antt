@@ -232,7 +232,7 @@ module _ {T : Type 0} (text : List ℕ) (catalogue : CatalogueState) (old new : 
         outcome = λ among. absurd (none.1 among.0 among.1);
       }
 
--- damage behind a gate
+-- damage after a gate
 pub damage-there : (text : List ℕ) (old mid : NextGate) (wanted : GatePlace) (is_there : Bool) (reached : List GatePlace) (at : ℕ) (kind : DamageKind) (known : Option DiskHistory)
     → IfKnown (λ h. StandsAfter text [] old h.now.seen → HasSkipped text wanted is_there mid reached h.now.seen) known
     → ((before : List (List Txn)) → IfKnown (λ h. HasGatesTo text before mid reached h.now.seen → IsDamagedLog at kind h.now.seen) known)

@@ -24,7 +24,7 @@ pub record IsPartOf (text : List ℕ) (before after rest : List (List Txn)) (giv
 abbrev pub OfKnownLog : Option DiskHistory → NextGate → (List ℕ → List (List Txn) → List (List Txn) → Type 0) → Type 0
 OfKnownLog known old What = (text : List ℕ) (before after : List (List Txn)) → IfKnown (λ h. HoldsLog text old.catalogue (before ++ after) h.now.seen → IsAfter text before old → What text before after) known
 
--- how it ended: nothing comes behind the last batch, or the disk holds no whole log
+-- how it ended: nothing comes after the last batch, or the disk holds no whole log
 abbrev pub EndsAs : Option DiskHistory → NextGate → NextGate → List Batch → Option FeedEnd → Type 0
 EndsAs known old new given None = Unit {0}
 EndsAs known old new given (Some Window) = Unit {0}
@@ -56,7 +56,7 @@ FillsAs window given (Some Window) = window ≤ given
 FillsAs window given (Some End) = given < window
 FillsAs window given (Some (Refused cause)) = given < window
 
--- So many bytes are missing now until the window is full. If more could be given at first, it ended with the window exactly where the bodies that
+-- This number of bytes is missing now until the window is full. If more could be given at first, it ended with the window exactly where the bodies that
 -- were given are as long as it.
 pub record AreBodiesCounted (missing now : ℕ) (given : List Batch) (first end : Option FeedEnd) : Type 0 where
   pub counted : now ≡ missing - bodies_len given

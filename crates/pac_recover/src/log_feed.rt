@@ -25,7 +25,8 @@ pub enum FeedEnd {
     Refused(LogError),
 }
 
-/// Gives the batches of a log from the reader's gate on, until their bodies are as long as a window. The reader stands behind them.
+/// Gives the batches of a log from the reader's gate on, until their bodies are as long as a window. The reader stands after
+/// them.
 #[derive(Drop)]
 pub struct LogFeed<'r, 'd, D: Disk> {
     reader: &'r mut LogReader,

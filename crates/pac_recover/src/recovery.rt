@@ -33,7 +33,7 @@ pub struct Recovered {
 }
 
 /// Recovers the tables of a store, on devices that are only read: scans it, executes the transactions of the log after the newest
-/// slot over that one's tables, by so many workers, and then tests the limit of rows. Each worker passes the gate before each
+/// slot over that one's tables, by `workers` workers, and then tests the limit of rows. Each worker passes the gate before each
 /// piece that it runs.
 ///
 /// The log is read twice. In the second reading the batches of 4,194,304 bytes are held in memory at a time, and what executes
@@ -72,8 +72,8 @@ pub fn recover<D: Disk, H: Threads + Wait + Sync, G: Gate + Sync>(
     recover_by_windows(rt, alloc, workers, WINDOW, limit, devices, gate)
 }
 
-/// Recovers the tables of a store like [`recover`], and holds at a time the batches of so many bytes of the log, and at most one more:
-/// with small windows it takes less memory, and workers wait more often.
+/// Recovers the tables of a store like [`recover`], and holds at a time the batches of `window` bytes of the log, and at most one
+/// more: with small windows it takes less memory, and workers wait more often.
 ///
 /// # Errors
 ///

@@ -32,8 +32,8 @@ use std::alloc::Global;
 use std::sync::Wait;
 use std::thread::Threads;
 
-/// Executes the transactions of a log after the newest slot over its tables, by so many workers, from the reader's gate, which is
-/// the first. It goes by windows of so many bytes, and nothing is read behind one in which a transaction aborts.
+/// Executes the transactions of a log after the newest slot over its tables, by `workers` workers, from the reader's gate, which
+/// is the first. It goes by windows of `window` bytes, and nothing is read after one in which a transaction aborts.
 ///
 /// # Errors
 ///

@@ -33,8 +33,8 @@ pub(crate) struct ExecutedWindow<T: TableRows> {
     pub is_last: bool,
 }
 
-/// Executes a window of a log from the reader's gate on over tables, by so many workers, while this thread reads it. A window has bodies
-/// of so many bytes, and at most one batch more, or ends where the log ends.
+/// Executes a window of a log from the reader's gate on over tables, by `workers` workers, while this thread reads it. A window
+/// has bodies of `bytes` bytes, and at most one batch more, or ends where the log ends.
 ///
 /// # Errors
 ///

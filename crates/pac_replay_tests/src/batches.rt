@@ -115,7 +115,7 @@ fn is_stress_txn(alloc: Global, number: u64, txn: &Txn) -> bool {
     }
 }
 
-// How many transactions in front are those of the stress test, numbered from 1.
+// How many transactions, from the first on, are those of the stress test, numbered from 1.
 fn count_same(alloc: Global, txns: &[Txn]) -> u64 {
     let mut count = 0u64;
     for txn in txns {

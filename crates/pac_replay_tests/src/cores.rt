@@ -31,7 +31,7 @@ proc Need(k int) {
 }
 ";
 
-// A catalogue, and lines behind the mark.
+// A catalogue, and lines after the mark.
 fn text_of(alloc: Global, catalogue: &[u8], lines: &[u8]) -> Result<Vec<u8>, AllocError> {
     let mut text = catalogue.to_vec(alloc)?;
     text.extend_from_slice(b"---\n")?;

@@ -24,7 +24,7 @@ fn fit_until_closed<R: Rows>(core: Core<R>, batches: &[Batch]) -> ((bool, bool),
     (open, fit(&core, batches))
 }
 
-// The same of the batches behind the first, where that one is loaded.
+// The same of the batches after the first, where that one is loaded.
 fn fit_behind_first(
     alloc: Global,
     plan: &Plan,

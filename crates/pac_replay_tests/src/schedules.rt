@@ -232,7 +232,7 @@ fn row_goes(alloc: Global, row: &Row) -> bool {
     }
 }
 
-// Two sets without pairs are opened, one behind the other.
+// Two sets without pairs are opened, one after the other.
 fn sets_go(alloc: Global, pieces: &[PieceId], cut: usize, steps: &[Step]) -> bool
     requires numbers { (k : ℕ) (d : PieceId) → k < length pieces.now → (slice_index_or pieces.now k d).txn ≡ k + 1 }
     requires cut { cut < length pieces.now }

@@ -26,7 +26,7 @@ pub(crate) enum CoreStep {
     GiveBack(u64, u16),
     /// No more batches come.
     Close,
-    /// So many pieces are not finished.
+    /// How many pieces are not finished.
     Left(u64),
 }
 
@@ -162,7 +162,7 @@ fn goes<R: Rows>(
     }
 }
 
-/// How many steps in front go so.
+/// How many steps, from the first on, go so.
 pub(crate) fn count_right<R: Rows>(
     alloc: Global,
     core: &mut Core<R>,

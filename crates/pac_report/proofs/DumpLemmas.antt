@@ -23,7 +23,7 @@ module _ {A : Type 0} (tables : Tables) (t : ℕ) (k : A → Key) (r : A → Row
   lines xs ks keys rows =
       ap (flat_map (row_line tables t)) (sym keys) ∙ own-lines xs (rows ∙ ap (map (λ key. get tables (t, key))) (sym keys))
 
--- a table's lines behind its head, whatever stands before them
+-- a table's lines after its head, whatever stands before them
 pub after-head : (out now name : List ℕ) (n : ℕ) (tables : Tables) (t : ℕ) (written : List ℕ) → now ≡ out ++ (codes "table " ++ name ++ codes " " ++ decimal n ++ codes "\n")
     → n ≡ length (keys_of tables t) → flat_map (row_line tables t) (keys_of tables t) ≡ written → now ++ written ≡ out ++ table_dump tables t name
 after-head out now name n tables t written head count body =

@@ -23,7 +23,7 @@ use Rattle.pac_run.proofs.ReadLemmas.{feed-behind}
 
 -- ---- what a line says
 
--- so many bytes of a line as tell that it is too long
+-- as many bytes of a line as show that it is too long
 abbrev pub cut_line : List ℕ → List ℕ
 cut_line line = take (MAX_LINE + 1) line
 

@@ -1,4 +1,4 @@
--- What an output says whoever reads it.
+-- What an output says to any reader.
 use Rattle.std.specs.Prelude.{◌⊎◌, ◌≡◌, ℕ, ◌^◌, ◌<◌, List, [], ◌∷◌, ◌++◌, codes}
 use Rattle.std.specs.Fmt.{decimal}
 use Rattle.pac_lines.specs.Lines.{lines_of}

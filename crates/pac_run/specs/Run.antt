@@ -113,7 +113,7 @@ pub record IsRun (batch limit : ℕ) (left left' held held' : Option (List ℕ))
   pub few : ¬ IsErrOf result TooLong → TookAtMost MAX_INPUT left left'
   pub long : IsErrOf result TooLong → IsOverLong ahead left left'
   pub cut : IsErrOf result InputFault → HasNoFeed ahead  -- no whole line was taken and not handled
-  -- nothing was read behind the last line: what was taken and not handled is of the read that gave its end
+  -- nothing was read after the last line: what was taken and not handled is of the read that gave its end
   pub behind : ¬ IsErrOf result InputFault → ¬ IsErrOf result TooLong → ¬ IsErrOf result NoMemory → length ahead < MAX_READ
   pub rules : Rules
   pub requests : List Request

@@ -70,7 +70,7 @@ module _ (pairs : List (ℕ × ℕ)) (i : ℕ) where
           skip : (p : ℕ) → p ≡ 0 → p + 0 ≡ 0
           skip p e = omega arith
 
-  -- it is the last up to itself, and no pair of the position stands behind it
+  -- it is the last up to itself, and no pair of the position stands after it
   pub record IsLast (o : Option ℕ) (m : ℕ) : Type 0 where
     pub settled : o ≡ last_from pairs i (pairs_up_to o)
     pub below : pairs_up_to o ≤ m

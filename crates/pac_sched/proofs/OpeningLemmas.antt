@@ -1,4 +1,4 @@
--- More pieces and pairs behind those that are open, and what is kept of them.
+-- More pieces and pairs after those that are open, and what is kept of them.
 use Rattle.std.proofs.Common.{◌≡◌, ◌≢◌, ℕ, suc, ◌+◌, ◌-◌, ◌<◌, ◌≤◌, Bool, true, false, cond, not, ◌&&◌, ◌==◌, List, [], ◌∷◌, ◌++◌, map, take, length, get_or, replicate, refl, sym, ap, ◌∙◌, subst, ⊎_elim, ◌⊎◌, Some, arith, true≢false}
 use Rattle.std.specs.Prelude.{slice_get, slice_index, slice_index_or, slice_set}
 use Rattle.std.proofs.lemmas.Bool.Decides.{nat_tests}
@@ -22,7 +22,7 @@ split a b = grind arith
 equal : (a b : ℕ) → (a ≡ b) ⊎ (a ≢ b)
 equal a b = grind arith
 
--- ---- pairs behind others
+-- ---- pairs after others
 
 -- pairs of positions in two lists one after the other
 pub inside_more : (n m : ℕ) (old new : List (ℕ × ℕ)) → AreInside n old → ArePairsBelow m new → AreEarlierLater new → AreInside (n + m) (old ++ moved_by n new)
@@ -73,7 +73,7 @@ unhindered_more states old new m inside free j jl w = ⊎_elim front back (split
         each : (k : ℕ) → k < length (old ++ moved_by (length states) new) → holds_up (states ++ replicate m Waiting) j (get_or (old ++ moved_by (length states) new) k (0, 0)) ≡ false
         each k kl = ⊎_elim (in_old k) (λ ge. in_new k ge kl) (split k (length old))
 
--- the states with those of new pieces behind them
+-- the states with those of new pieces after them
 pub resized : (states got new : List PieceState) (n len p m : ℕ) → new ≡ take n got ++ replicate (n - len) Waiting → got ≡ states → n ≡ p + m → length states ≡ p → len ≡ length got → new ≡ states ++ replicate m Waiting
 resized states got new n len p m e same size old l =
     e ∙ ap (λ xs. take n xs ++ replicate (n - len) Waiting) same ∙ ap (λ xs. xs ++ replicate (n - len) Waiting) (take_all n states (omega arith))

@@ -63,7 +63,7 @@ ascends_more xs i pos inside all e here_e j k d lt le = ⊎_elim (λ e. subst (�
     last : (j : ℕ) (d : PieceId) → j < i → piece_before (get_or xs j d) (get_or xs i d) ≡ true
     last j d lt = ⊎_elim (λ e. subst (λ j. piece_before (get_or xs j d) (get_or xs i d) ≡ true) (sym e) (here d)) (λ l. before_trans (get_or xs j d) (get_or xs (i - 1) d) (get_or xs i d) (all j (i - 1) d l (omega arith)) (here d)) (split' j i lt)
 
--- in an ascending list what stands below one that is before the piece is none, nor what stands above one that is behind it
+-- in an ascending list what stands below one that is before the piece is none, nor what stands above one that is after it
 module _ (xs : List PieceId) (up : IsAscending xs) (id : PieceId) (i : ℕ) (lt : i < length xs) (e d : PieceId) where
   at_default : get_or xs i d ≡ get_or xs i e
   at_default = get_or_default xs i d e lt
@@ -83,7 +83,7 @@ module _ (xs : List PieceId) (up : IsAscending xs) (id : PieceId) (i : ℕ) (lt 
 pub here_is : (xs : List PieceId) (id : PieceId) (i : ℕ) → i < length xs → (e d : PieceId) → piece_before (get_or xs i e) id ≡ false → piece_before id (get_or xs i e) ≡ false → is_piece id (get_or xs i d) ≡ true
 here_is xs id i lt e d a b = ap (is_piece id) (get_or_default xs i d e lt) ∙ neither_is (get_or xs i e) id a b
 
--- a piece that is neither before nor behind the one at a position stands there, and nowhere before
+-- a piece that is neither before nor after the one at a position stands there, and nowhere before
 pub only_here : (xs : List PieceId) → IsAscending xs → (id : PieceId) (i : ℕ) → i < length xs → (e : PieceId) → piece_before (get_or xs i e) id ≡ false → piece_before id (get_or xs i e) ≡ false
     → position (is_piece id) xs ≡ Some i
 only_here xs up id i lt e a b = first_at (is_piece id) xs i e lt (here_is xs id i lt e e a b)

@@ -109,11 +109,11 @@ set_at (Some i) state states = slice_set states i state
 abbrev pub with_state : Schedule → PieceId → PieceState → Schedule
 with_state s id state = record { pieces = s.pieces; states = set_at (position_of s id) state s.states; pairs = s.pairs }
 
--- pairs of positions in a list that stands behind that many others
+-- pairs of positions in a list that comes after n others
 abbrev pub moved_by : ℕ → List (ℕ × ℕ) → List (ℕ × ℕ)
 moved_by n pairs = map (λ pair. (n + pair.0, n + pair.1)) pairs
 
--- more pieces are open behind the others, with the pairs of their own positions
+-- more pieces are open after the others, with the pairs of their own positions
 abbrev pub after_opening : Schedule → List PieceId → List (ℕ × ℕ) → Schedule
 after_opening s pieces pairs = record {
   pieces = s.pieces ++ pieces;

@@ -8,7 +8,7 @@ use crate::ready_set::ReadySet;
 use pac_base::NoMemory;
 use std::alloc::Global;
 
-// These pairs, and behind them those of positions in a list that stands behind that many others.
+// The old pairs, and after them the new ones, whose positions count from `len` on.
 pub(crate) fn moved(
     alloc: Global,
     old: &[(usize, usize)],

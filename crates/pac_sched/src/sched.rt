@@ -90,7 +90,7 @@ impl Sched {
         })
     }
 
-    /// Opens pieces behind those that are open, with pairs of positions among the new ones. It takes the memory for all later
+    /// Opens pieces after those that are open, with pairs of positions among the new ones. It takes the memory for all later
     /// calls on them, and time that grows with the pieces and pairs that were opened so far.
     ///
     /// # Errors
@@ -106,7 +106,7 @@ impl Sched {
         Ok(())
     }
 
-    // The scheduler with more pieces behind its own.
+    // The scheduler with more pieces after its own.
     fn with_set(&self, pieces: &[PieceId], pairs: &[(u32, u32)]) -> Result<Sched, NoMemory>
         requires distinct { AreDifferent (self.now.pieces ++ pieces.now) }
         requires within { ArePairsBelow (length pieces.now) pairs.now }

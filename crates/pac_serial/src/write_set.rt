@@ -75,7 +75,7 @@ fn order(cell: &(u16, Key), table: u16, key: &Key) -> Ordering
     }
 }
 
-// Adds a change at an offset. Behind all others, none of these is moved.
+// Adds a change at an offset. After all others, none of these is moved.
 fn add_at(changes: &mut Vec<CellChange>, at: usize, change: CellChange) -> Result<(), NoMemory>
     requires { at ≤ vec_len changes.old }
     ensures ok { OnOk result (changes.new.items ≡ insert changes.old.items at change) }
@@ -89,7 +89,7 @@ fn add_at(changes: &mut Vec<CellChange>, at: usize, change: CellChange) -> Resul
     Ok(())
 }
 
-// Takes the rows of changes away, up to so many that are kept. The others are dropped.
+// Takes the rows of changes away: up to `MAX_SPARE` rows are kept, the others are dropped.
 fn take_rows(changes: &mut [CellChange], spare: &mut Listed<Row>) {
     for at in 0..changes.len() {
         if let Some(row) = changes[at].1.row.take()

@@ -28,7 +28,7 @@ abbrev pub from_rest : After → Before → ℕ → List ℕ → Option (List Sp
 from_rest next before at [] = Some []
 from_rest next before at (b ∷ bs) = from_found next before at (b ∷ bs) (token_at before (b ∷ bs))
 
--- the tokens from an offset on, if they are fewer than so many and none is at fault
+-- the tokens from an offset on, if they are few enough and none is at fault
 unfoldable pub tokens_from : ℕ → After
 tokens_from zero before at bytes = None
 tokens_from (suc fuel) before at bytes = from_rest (λ b n bs. tokens_from fuel b n bs) before (at + gap bytes) (drop (gap bytes) bytes)

@@ -23,7 +23,7 @@ use Rattle.pac_stress.specs.declared.execution.Finished.{Finished}
 
 -- ---- pieces
 
--- by the plan of the catalogue, of which there is only one, the transactions of the batches, numbered from 1 on, have so many pieces
+-- by the plan of the catalogue, of which there is only one, the transactions of the batches, numbered from 1 on, have this number of pieces
 pub record HavePieces (catalogue : CatalogueState) (batches : List Batch) (count : ℕ) : Type 0 where
   pub plan : PlanParts
   pub programs : plan.programs ≡ map program_of catalogue.procs
@@ -33,7 +33,7 @@ pub record HavePieces (catalogue : CatalogueState) (batches : List Batch) (count
 
 -- ---- what transactions end with
 
--- the transactions of batches end with these tables and have so many pieces, or abort so, or there was no memory
+-- the transactions of batches end with these tables and have this number of pieces, or abort with this, or there was no memory
 abbrev pub Finishes : CatalogueState → List Batch → Result Tables Note → Result Finished AllError → Type 0
 Finishes catalogue batches meaning (Ok finished) = (meaning ≡ Ok finished.rows.rows) × HavePieces catalogue batches finished.pieces
 Finishes catalogue batches meaning (Err (Abort note)) = meaning ≡ Err note
@@ -45,7 +45,7 @@ stress_outcome catalogue count = serial catalogue.procs 1 (stress_txns 1 count) 
 
 -- ---- the summary
 
--- the test of so many transactions ends with tables over the bank's catalogue, and its summary has this property
+-- the test of this number of transactions ends with tables over the bank's catalogue, and its summary has this property
 pub record IsSummaryOf (count : ℕ) (P : List ℕ → Type 0) : Type 0 where
   pub catalogue : CatalogueState
   pub is : HasCatalogue bank_text catalogue

@@ -11,7 +11,7 @@ use std::alloc::Global;
 // How many transactions a whole batch has.
 const WHOLE: u32 = 64;
 
-// A batch of so many transactions, from a number on.
+// A batch of `count` transactions, numbered from `first` on.
 fn stress_batch(alloc: Global, first: u64, count: u32) -> Result<Batch, NoMemory>
     requires some { 1 ≤ count }
     requires few { count ≤ MAX_TXNS }

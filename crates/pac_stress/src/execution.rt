@@ -37,7 +37,7 @@ fn together(tallies: &[u64], drained: u64) -> u64
     all
 }
 
-/// What batches that run on from the first transaction leave, from no rows on, by so many workers. Each of them passes the
+/// What batches that run on from the first transaction leave, from no rows on, by `workers` workers. Each of them passes the
 /// gate before each piece that it runs.
 pub(crate) fn execute_all<H: Threads + Wait + Sync, G: Gate + Sync>(
     rt: &H,

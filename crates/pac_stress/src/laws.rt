@@ -10,7 +10,7 @@ pub fn one_number_of_pieces()
     ensures { (catalogue : CatalogueState) (batches : List ABatch) (count other : ℕ) → HavePieces catalogue batches count → HavePieces catalogue batches other → count ≡ other }
 {}
 
-/// So many transactions of the stress test have one summary, and where they have one none of them aborts.
+/// The first transactions of the stress test, however many, have one summary, and where they have one none of them aborts.
 pub fn one_summary()
     ensures one { (count : ℕ) (text other : List ℕ) → IsSummaryOf count (λ all. text ≡ all) → IsSummaryOf count (λ all. other ≡ all) → text ≡ other }
     ensures ends { (count : ℕ) (text : List ℕ) (note : ANote) → IsSummaryOf count (λ all. text ≡ all) → ¬ AbortsStress count note }

@@ -1,7 +1,7 @@
 //! The stress test: transactions over the catalogue of a bank, executed by workers, and the summary of what they leave.
 //!
-//! - [`stress_summary`]: executes so many transactions from no rows on, by so many workers, and returns the text of the summary: how
-//!   many they are, how many pieces they have, and how many rows each table ends with.
+//! - [`stress_summary`]: executes a number of transactions from no rows on, by a number of workers, and returns the text of the
+//!   summary: how many they are, how many pieces they have, and how many rows each table ends with.
 //! - [`bank_catalogue`]: the catalogue, whose text is that of `pac_bank`. [`stress_batches`]: the transactions, in batches of 64.
 //!
 //! ```
@@ -12,8 +12,8 @@
 //! ```
 //!
 //! The summary is exactly the one that `specs/Summary.antt` defines, of the tables with which serial execution of the
-//! transactions ends, and of the pieces that the plan of the catalogue makes of them (`specs/Stressed.antt`). So many
-//! transactions have only one ([`one_summary`], [`one_number_of_pieces`]). That the text has this catalogue, and that the
+//! transactions ends, and of the pieces that the plan of the catalogue makes of them (`specs/Stressed.antt`). A number of
+//! transactions has only one ([`one_summary`], [`one_number_of_pieces`]). That the text has this catalogue, and that the
 //! transactions fit it, is proved and not tested when the program runs: the text is read and checked by the definitions
 //! (`proofs/BankReading.antt`, `proofs/BankTyping.antt`). That no transaction aborts is not proved.
 #![tactic(auto)]

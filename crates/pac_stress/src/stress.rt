@@ -12,7 +12,7 @@ use std::alloc::Global;
 use std::sync::Wait;
 use std::thread::Threads;
 
-/// Executes so many transactions of the stress test from no rows on, by so many workers, and returns the summary. Each worker
+/// Executes `count` transactions of the stress test from no rows on, by `workers` workers, and returns the summary. Each worker
 /// passes the gate before each piece that it runs.
 ///
 /// # Errors

@@ -41,7 +41,7 @@ fn push_row_counts<R: Rows>(out: &mut Vec<u8>, cat: &Catalogue, rows: &R) -> Res
     Ok(())
 }
 
-/// The summary of so many transactions with so many pieces, after which these rows stand.
+/// The summary of `txns` transactions with `pieces` pieces, after which these rows stand.
 ///
 /// # Errors
 ///

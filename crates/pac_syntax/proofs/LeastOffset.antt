@@ -23,7 +23,7 @@ abbrev places : List Spanned → List ℕ
 places [] = []
 places (t ∷ ts) = t.at ∷ places ts
 
--- the offsets of tokens, and of the end behind them, ascend
+-- the offsets of tokens, and of the end after them, ascend
 abbrev Ascend : ℕ → ℕ → List Spanned → Type 0
 Ascend low end ts = Climbs low (places ts ++ end ∷ [])
 
@@ -145,7 +145,7 @@ from_mark ts p r t before loop parts same l =
 marks_long : (p : List Spanned) (before : List Marked) (loop : ℕ) → tokens_of before ≡ p → (l : LoopMark before loop) → length p ≡ length l.front + suc (length l.back)
 marks_long p before loop same l = ap length (sym same) ∙ tokens_length before ∙ ap length l.parts ∙ length-append l.front (l.mark ∷ l.back)
 
--- no fault stands behind the first token that is left
+-- no fault comes after the first token that is left
 not_behind : (end : ℕ) (ts p rest : List Spanned) (f : Fault) → Ascend 0 end ts → ts ≡ p ++ rest → FaultAt end p rest f → f.at ≤ offset end rest
 not_behind end ts p rest f ascend parts (inl u) = omega (arith, ap (λ (x : Fault). x.at) u.0)
 not_behind end ts p [] f ascend parts (inr h) = absurd h

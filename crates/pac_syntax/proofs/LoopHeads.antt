@@ -7,7 +7,7 @@ use Rattle.pac_syntax.specs.declared.limits.Around.{Around}
 use Rattle.pac_syntax.specs.declared.tree.Tree.{Tree}
 use Rattle.pac_syntax.specs.Grammar.{LiteralForm, AnInt, ANegative, AText, ATrue, AFalse, ExprForm, ALiteral, AName, ANot, AParen, ABinary, ValuesForm, NoValue, AValue, BoundForm, ABound, ANegativeBound, StmtsForm, NoStmt, ALet, ARead, AHas, APut, ASet, ADelete, AnAbort, AnIf, AnIfElse, ALoop, TypeForm, AnIntType, ATextType, ColumnsForm, NoColumn, AColumn, ParamsForm, NoParam, AParam, TablesForm, NoTable, ATable, ProcsForm, NoProc, AProc, bound_value, outermost, inside_block, in_loop, loop_turns, last_bound, Role, Plain, TableWord, ProcWord, ColumnName, ParamName, Operator, Paren, Nested, LastBound, Marked, symbol_mark, name_mark, type_mark, literal_before, bound_before, counted, expr_before, whole_before, values_before, stmts_before, columns_before, params_before, tables_before, procs_before, Whole}
 
--- the offset of the last `if` or `for`, where plain tokens alone stand behind it
+-- the offset of the last `if` or `for`, where plain tokens alone come after it
 abbrev Head : Type 0
 Head = Option ℕ
 
@@ -122,7 +122,7 @@ procs (AProc p0 n p1 ps p2 p3 s p4 f) i head =
 abbrev pub ArePlain : List Marked → Type 0
 ArePlain ms = AllByRecursion (λ m. m.role ≡ Plain) ms
 
--- among these marks one stands at the offset, and plain ones alone behind it
+-- among these marks one stands at the offset, and plain ones alone after it
 pub record LoopMark (before : List Marked) (loop : ℕ) : Type 0 where
   pub front : List Marked
   pub mark : Marked

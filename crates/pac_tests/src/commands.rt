@@ -124,7 +124,7 @@ fn step_ends(
     ends(alloc, step.0, input, devices, step.2)
 }
 
-// How many steps in front end so.
+// How many steps, from the first on, end so.
 fn count_right(alloc: Global, devices: &mut Devices<MemDisk>) -> Result<usize, AllocError> {
     let mut count = 0usize;
     for step in STEPS {

@@ -16,14 +16,14 @@ const HEADER: &[u8] =
 // The two numbers of a batch: 449 transactions, and 475,940 bytes.
 const NUMBERS: &[u8] = b"\xc1\x01\0\0\x24\x43\x07\0";
 
-// A call of the first procedure has 16 texts behind this.
+// A call of the first procedure has 16 texts after this.
 const CALL: &[u8] = b"\x01\0\0\x10";
 
 const TEXT: &[u8] = b"\x02\x40xxxxxxxxxxxxxxxxxxxxxxxxxxxxxxxxxxxxxxxxxxxxxxxxxxxxxxxxxxxxxxxx";
 
 const BATCH_LEN: u64 = 9 + 449 * (4 + 16 * 66);
 
-// The header, 564 such batches behind their gates, and a gate that is shut. There are 13 bytes more in a full log.
+// The header, 564 such batches after their gates, and a gate that is shut. There are 13 bytes more in a full log.
 const LOG_LEN: u64 = 206 + 564 * BATCH_LEN + 1;
 
 fn push_call(bytes: &mut Vec<u8>) -> Result<(), AllocError> {
@@ -34,7 +34,7 @@ fn push_call(bytes: &mut Vec<u8>) -> Result<(), AllocError> {
     Ok(())
 }
 
-// An open gate, and a batch behind it.
+// An open gate, and a batch after it.
 fn batch(alloc: Global) -> Result<Vec<u8>, AllocError> {
     let mut bytes = b"\x01".to_vec(alloc)?;
     bytes.extend_from_slice(NUMBERS)?;
@@ -52,7 +52,7 @@ struct Computed<'a> {
     len: u64,
 }
 
-// Copies the bytes from an offset on, and then the open gate behind them.
+// Copies the bytes from an offset on, and then the open gate after them.
 fn copy_from(source: &[u8], from: u64, piece: &mut [u8]) {
     let rest = match source.get(from as usize..) {
         Some(rest) => rest,
@@ -158,7 +158,7 @@ fn run_ends<H: Threads + Wait + Sync>(
     has_ended(status, streams, END)
 }
 
-// How long the log is behind a run that ends so.
+// How long the log is after a run that ends so.
 fn len_when_full<H: Threads + Wait + Sync>(
     rt: &H,
     alloc: Global,

@@ -114,7 +114,7 @@ fn answers(reader: &mut LineReader, source: &mut Typed, wanted: Answer) -> bool 
     }
 }
 
-// How many calls in front answer so.
+// How many calls, from the first on, answer so.
 fn count_right(reader: &mut LineReader, source: &mut Typed, calls: &[Answer]) -> usize {
     let mut count = 0usize;
     for &wanted in calls {

@@ -45,7 +45,7 @@ fn ended<H: Threads + Wait + Sync, G: Gate + Sync>(
     ))
 }
 
-// A call of each of so many keys.
+// A call of each of the first `keys` keys.
 fn calls_of(alloc: Global, keys: u64) -> Result<Vec<u8>, AllocError> {
     let mut lines = Vec::new(alloc);
     for key in 0..keys {
@@ -140,7 +140,7 @@ fn one_worker_recovers_in_order(rt: HostRuntime) -> Result<(), Fail> {
     Ok(())
 }
 
-// The request lines of so many transactions of the stress test.
+// The request lines of the first `txns` transactions of the stress test.
 fn stress_lines(alloc: Global, txns: u64) -> Result<Vec<u8>, AllocError> {
     let mut lines = Vec::new(alloc);
     for before in 0..txns {

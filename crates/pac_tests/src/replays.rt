@@ -149,7 +149,7 @@ pub(crate) fn no_devices(alloc: Global) -> Devices<MemDisk> {
     }
 }
 
-// The status with which a command ends that executes by so many workers, each of which passes the gate.
+// The status with which a command ends that executes by `workers` workers, each of which passes the gate.
 fn executed<H: Threads + Wait + Sync, G: Gate + Sync>(
     rt: &H,
     alloc: Global,
@@ -217,7 +217,7 @@ proc Add(k int, n int) { read a = T[k].v default 0; put T[k] = (a + n); }
 ---
 ";
 
-// Calls of so many keys.
+// A script with a call of each of the first `keys` keys.
 fn many_keys(alloc: Global, keys: u64) -> Result<Vec<u8>, AllocError> {
     let mut script = ADD.as_bytes().to_vec(alloc)?;
     for key in 0..keys {

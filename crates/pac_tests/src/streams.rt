@@ -7,7 +7,7 @@ use std::io;
 use std::io::{Read, Write};
 use std::test::Fail;
 
-/// A stream that answers each call by the next of its steps: at most so many bytes, or an error. After them is the end.
+/// A stream that answers each call by the next of its steps: at most a number of bytes, or an error. After them is the end.
 #[derive(Drop)]
 struct Steps {
     steps: [Option<usize>; 3],

@@ -13,7 +13,7 @@ use std::sync::Wait;
 use std::test::Fail;
 use std::thread::Threads;
 
-// How many batches the next window of so many bytes has, and why it ends; `None` after eight of them.
+// How many batches the next window of `window` bytes has, and why it ends; `None` after eight of them.
 fn next_window(reader: &mut LogReader, log: &mut MemDisk, window: u64) -> Option<(u64, FeedEnd)> {
     if window == 0 {
         return None;
@@ -68,7 +68,7 @@ fn a_log_is_fed_window_by_window(rt: HostRuntime) -> Result<(), Fail> {
     Ok(())
 }
 
-// The dump of the tables that two workers recover by windows of so many bytes. `None`: none are recovered.
+// The dump of the tables that two workers recover by windows of `window` bytes. `None`: none are recovered.
 fn recovered_text<H: Threads + Wait + Sync>(
     rt: &H,
     alloc: Global,
@@ -83,7 +83,7 @@ fn recovered_text<H: Threads + Wait + Sync>(
     dump(alloc, &found.catalogue, &found.tables).ok()
 }
 
-// Whether these tables are recovered by windows of so many bytes.
+// Whether these tables are recovered by windows of `window` bytes.
 fn is_recovered<H: Threads + Wait + Sync>(
     rt: &H,
     alloc: Global,

@@ -25,7 +25,7 @@ use Rattle.pac_tokens.specs.Tokens.{is_letter, is_digit, is_name, digits_value, 
 
 -- ---- words and ints
 
--- the only keyword that may be spelled by that many bytes of which these are the first two
+-- the only keyword that may be spelled by this number of bytes that begin with these two
 abbrev pub candidate : ℕ → ℕ → ℕ → Option Keyword
 candidate first second len =
     if nat_eq first lower_a then Some keyword.Abort

@@ -92,7 +92,7 @@ pub(crate) fn digits_len(bytes: &[u8]) -> usize
         .count()
 }
 
-// The only keyword that that many bytes, which begin with these two, may spell.
+// The only keyword that may be spelled by `len` bytes that begin with these two.
 fn keyword_like(first: u8, second: u8, len: usize) -> Option<Keyword>
     ensures { result ≡ candidate first second len }
 {

@@ -4,7 +4,7 @@
 //! the hands of the only one who changes the value, carries what that one knows of it: the twins show the same, and only who has
 //! both at hand can have them show something else.
 //!
-//! - [`Pair::new`]: two twins that show a value. [`Pair::show`]: has them show another value; whoever calls it learns that they
+//! - [`Pair::new`]: two twins that show a value. [`Pair::show`]: has them show another value; the caller learns that they
 //!   showed the same.
 //!
 //! ```

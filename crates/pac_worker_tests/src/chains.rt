@@ -8,8 +8,8 @@ use pac_workers::{Machine, Ready, Taken};
 use std::alloc::Global;
 use std::marker::Model;
 
-/// How many chains there are, how long each is, how many turns each piece takes, and which pieces are run on the spot: every so many
-/// of all, or none for 0.
+/// How many chains there are, how long each is, how many turns each piece takes, and which pieces are run on the spot: each
+/// `spot_every`-th, or none for 0.
 #[derive(Clone, Copy)]
 pub struct Pattern {
     pub chains: u16,
@@ -96,14 +96,14 @@ impl Chains {
         })
     }
 
-    /// So many pieces that are handed out, or run on their turn, will find no memory.
+    /// The next `pieces` pieces that are handed out, or run on their turn, will find no memory.
     pub fn starve(&mut self, pieces: u32)
         ensures { self.new ≡ self.old }
     {
         self.starved = pieces;
     }
 
-    /// So many results that are handed in next will be refused.
+    /// The next `results` results that are handed in will be refused.
     pub fn refuse(&mut self, results: u32)
         ensures { self.new ≡ self.old }
     {
@@ -319,7 +319,7 @@ impl Machine for Chains {
     }
 }
 
-// So many chains of which nothing is finished.
+// `chains` chains of which nothing is finished.
 fn begun(alloc: Global, chains: u16) -> Result<Vec<Chain>, NoMemory> {
     let mut begun = Vec::new(alloc);
     for _ in 0..chains {

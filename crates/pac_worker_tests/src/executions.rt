@@ -69,7 +69,7 @@ fn value_at(rows: &OrderedRows, key: i64) -> Option<Value>
     rows.get(0, &Key::Int(key))?.items().first().copied()
 }
 
-// Whether two batches, executed by so many workers, leave the rows that are put last.
+// Whether two batches, executed by `workers` workers, leave the rows that are put last.
 pub fn leaves_the_last<H: Threads + Wait + Sync>(
     rt: &H,
     alloc: Global,

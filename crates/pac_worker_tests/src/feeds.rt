@@ -76,7 +76,7 @@ pub struct AfterFeed {
     pub next_txn: u64,
 }
 
-/// What an empty core is left as by so many workers that are fed from a queue.
+/// What an empty core is left as by `workers` workers that are fed from a queue.
 pub fn fed<G: Gate + Sync, H: Threads + Wait + Sync>(
     rt: &H,
     alloc: Global,
@@ -92,7 +92,7 @@ pub fn fed<G: Gate + Sync, H: Threads + Wait + Sync>(
     left_by(rt, alloc, workers, core, &mut feed, gate)
 }
 
-// What a core is left as by so many workers that are fed from a queue.
+// What a core is left as by `workers` workers that are fed from a queue.
 fn left_by<R: Rows + Send, G: Gate + Sync, H: Threads + Wait + Sync>(
     rt: &H,
     alloc: Global,

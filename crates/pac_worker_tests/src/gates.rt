@@ -54,7 +54,7 @@ pub struct Logging {
 }
 
 impl Logging {
-    /// Nobody has entered. There is room for so many.
+    /// Nobody has entered. There is room for `room` entries.
     pub fn new(alloc: Global, room: u64) -> Result<Logging, NoMemory> {
         Ok(Logging {
             next: AtomicU64::new(0),
@@ -104,8 +104,8 @@ impl Counting {
         })
     }
 
-    /// Whether each piece that so many workers pass the gate with entered once, and no other. One worker passes it with each piece,
-    /// more with those that are handed out.
+    /// Whether each piece that `workers` workers pass the gate with entered once, and no other. One worker passes it with each
+    /// piece, more with those that are handed out.
     pub fn is_each_once(&self, pattern: Pattern, workers: u32) -> bool {
         for at in 0..self.counts.len() {
             let count = self.counts[at].load(Ordering::SeqCst);
@@ -127,7 +127,7 @@ impl Gate for Counting {
     }
 }
 
-// So many counts of nothing.
+// `number` counters, each at 0.
 fn zeros(alloc: Global, number: u64) -> Result<Vec<AtomicU64>, NoMemory> {
     let mut zeros = Vec::new(alloc);
     for _ in 0..number {

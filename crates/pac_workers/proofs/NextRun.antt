@@ -20,6 +20,6 @@ module _ (old new : Replay) where
   ran_left (Ok next) ok = left_of next ok
   ran_left (Err e) ok = tt
 
-  -- the number behind the batch
+  -- the number after the batch
   pub next_loaded : (batch : Batch) → batch.first ≡ next_in_job old.job old.batches → new ≡ with_batch_loaded old batch → next_in_job new.job new.batches ≡ batch.first + length batch.txns
   next_loaded batch first is = ap (λ (r : Replay). next_in_job r.job r.batches) is ∙ next_more old.job old.batches batch ∙ ap (λ n. n + length batch.txns) (sym first)

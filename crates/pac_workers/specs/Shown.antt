@@ -39,7 +39,7 @@ module _ {M : Type 0} where
   with_each with_batch all [] = all
   with_each with_batch all (batch ∷ batches) = with_each with_batch (with_batch all batch) batches
 
-  -- a twin tells an open job with one batch more, of the same types, whose next batch comes behind it
+  -- a twin tells an open job with one batch more, of the same types, whose next batch comes after it
   pub record TellsMore (job : M → M) (is_closed : M → Bool) (with_batch : M → Batch → M) (next_txn : M → ℕ) (params : M → List (List Ty)) (tables : M → List TableTypes) (id : TableId) (all : M) (batch : Batch) (twin : Seat M (List M)) : Type 0 where
     pub tells : Tells job is_closed id (with_batch all batch) false twin
     pub next_is : next_txn (with_batch all batch) ≡ batch.first + length batch.txns

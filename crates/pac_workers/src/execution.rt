@@ -35,7 +35,7 @@ pub struct Executed<R: Rows> {
     pub drained: u64,
 }
 
-/// Executes consecutive batches over tables, by so many workers. What is left is what executing their transactions one after
+/// Executes consecutive batches over tables, by `workers` workers. What is left is what executing their transactions one after
 /// another leaves, whichever worker runs which piece, and when. Each worker passes the gate before each piece that it runs.
 ///
 /// # Errors
@@ -69,8 +69,8 @@ pub fn execute<R: Rows + Send, G: Gate + Sync, H: Threads + Wait + Sync>(
     Ok(into_executed(replayed))
 }
 
-/// Executes over tables what a feed gives, by so many workers, while the caller's thread loads it. What is left is what executing the
-/// transactions of its batches one after another leaves. Each worker passes the gate before each piece that it runs.
+/// Executes over tables what a feed gives, by `workers` workers, while the caller's thread loads it. What is left is what
+/// executing the transactions of its batches one after another leaves. Each worker passes the gate before each piece that it runs.
 ///
 /// # Errors
 ///

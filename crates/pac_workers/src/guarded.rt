@@ -43,7 +43,7 @@ pub(crate) struct Guarded<M: Machine, L: Lent> {
     pub(crate) machine: M,
     pub(crate) twin: Twin<M>,
     book: Book<L>,
-    // How many workers hold pieces, and how many rest. There are never so many that a count stands at its type's end.
+    // How many workers hold pieces, and how many rest. Neither count ever stands at its type's end.
     active: u32,
     resting: u32,
     /// Whether more batches may come.

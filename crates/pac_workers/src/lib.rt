@@ -1,12 +1,12 @@
 //! Workers: threads that share a replay under a lock, and finish it together.
 //!
-//! - [`Machine`]: what is replayed. Its pieces are taken under the lock, run outside it by whoever took them, and handed in under
-//!   it. The trait asks only for what workers need, so that any order of pieces may stand behind it.
-//! - [`replay`]: finishes a machine by so many workers, and returns it as [`Replayed`], with the number of pieces that each worker
-//!   finished and the number of those that were left by all.
+//! - [`Machine`]: what is replayed. Its pieces are taken under the lock, run outside it by the worker that took them, and handed
+//!   in under it. The trait asks only for what workers need, so that any order of pieces may stand behind it.
+//! - [`replay`]: finishes a machine by a number of workers, and returns it as [`Replayed`], with the number of pieces that each
+//!   worker finished and the number of those that were left by all.
 //! - [`replay_feed`]: the same while the caller's thread loads into it what a [`Feed`] gives. A machine that can be loaded is one
 //!   that [`Loads`].
-//! - [`execute`]: executes batches of transactions over tables by so many workers. It loads them into a `Core` of `pac_core`,
+//! - [`execute`]: executes batches of transactions over tables by a number of workers. It loads them into a `Core` of `pac_core`,
 //!   which is a machine, and leaves the tables and the first note, as if each transaction had been executed after the other.
 //!   [`execute_feed`] does so with what a feed gives, and [`execute_here`] without any thread.
 //!

@@ -35,7 +35,7 @@ pub struct Ready {
     pub weight: u64,
 }
 
-/// A replay that workers may share under a lock: pieces are taken, run by whoever took them, and handed in.
+/// A replay that workers may share under a lock: pieces are taken, run by the worker that took them, and handed in.
 ///
 /// In its contracts `job` is what there is to do: the machine, closed, as it is before any piece is taken. No call changes it.
 pub trait Machine: Drop {

@@ -31,8 +31,8 @@ pub struct Replayed<M: Machine> {
     pub drained: u64,
 }
 
-/// Finishes a machine by so many workers, each of which passes the gate before each piece that it runs. One of them is the caller's
-/// thread. Where a thread can't be started, its share is left to the others.
+/// Finishes a machine by `workers` workers, each of which passes the gate before each piece that it runs. One of them is the
+/// caller's thread. Where a thread can't be started, its share is left to the others.
 ///
 /// # Errors
 ///
@@ -62,8 +62,8 @@ pub fn replay<M: Machine + Send, G: Gate + Sync, H: Threads + Wait + Sync>(
     Ok(replayed)
 }
 
-/// Finishes a machine by so many workers, while the caller's thread loads into it what a feed gives. The machine is closed once the
-/// feed has no more. Afterwards its job is the one that was lent followed by the batches that the feed gave, and the tallies and what
+/// Finishes a machine by `workers` workers, while the caller's thread loads into it what a feed gives. The machine is closed once
+/// the feed has no more. Afterwards its job is the one that was lent followed by the batches that the feed gave, and the tallies and what
 /// was drained add up to the pieces that weren't finished at the call and those of these batches.
 ///
 /// # Errors

@@ -1,4 +1,4 @@
--- What was moved stands behind the rest.
+-- What was moved stands after the rest.
 use Rattle.std.proofs.Common.{◌≡◌, ◌++◌, length}
 use Rattle.pac_core.proofs.job.in_turn.Given as goal
 

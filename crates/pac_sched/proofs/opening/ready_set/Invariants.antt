@@ -1,4 +1,4 @@
--- The flags so far are those of the pieces; none behind them is raised.
+-- The flags so far are those of the pieces; none after them is raised.
 use Rattle.std.proofs.Common.{◌≡◌, ℕ, ◌<◌, ◌≤◌, Bool, false, ◌&&◌, ◌==◌, length}
 use Rattle.std.specs.Prelude.{slice_index, slice_index_or}
 use Rattle.pac_sched.specs.Counts.{waits_at}

@@ -1,4 +1,4 @@
--- What a batch adds stands behind the rest.
+-- What a batch adds stands after the rest.
 use Rattle.std.proofs.Common.{◌≡◌, ◌+◌, false, List, [], ◌∷◌, ◌++◌, length, Result, Ok, Err, refl, sym, ap, ◌∙◌, true≢false, rules}
 use Rattle.std.specs.Prelude.{OnOk, is_err}
 use Rattle.pac_ops.specs.declared.transaction.Txn.{Txn}

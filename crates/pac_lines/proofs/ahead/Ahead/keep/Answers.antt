@@ -1,4 +1,4 @@
--- The bytes ahead are cut behind the most.
+-- The bytes ahead are cut after the most that are wanted.
 use Rattle.std.proofs.Common.{◌≡◌, ◌∙◌, ◌≤◌, ◌+◌, length, length-take, arith, sym, ap, subst, take, drop, List, [], ℕ}
 use Rattle.pac_lines.specs.Lines.{HasNoFeed}
 use Rattle.pac_lines.specs.Reading.{AheadState}

@@ -1,4 +1,4 @@
--- The new pairs are of positions behind the old ones, and the new pieces wait.
+-- The new pairs are of positions after the old ones, and the new pieces wait.
 use Rattle.std.proofs.Common.{◌≡◌, ◌++◌, ◌+◌, length, replicate, arith, ◌∙◌, sym, ap, subst, ◌<◌}
 use Rattle.std.proofs.lemmas.Grind.{common_steps}
 use Rattle.std.proofs.lemmas.List.{length-append}
