@@ -190,7 +190,7 @@ runs)
     done <<'END'
 1 3000 31 3000
 64 100000 1417 1562
-1024 1000000 22527 976
+1024 1000000 22537 976
 END
     echo "recover of a million transactions"
     memory recover /dev/null

@@ -1,6 +1,6 @@
 // The numbers that arguments may say, and those that are taken where they say none. The least of each is 1.
 
-/// The most requests of a batch.
+/// The most replies of a group.
 pub const MAX_GROUP_SIZE: u32 = 1_024;
 
 /// The greatest limit on the rows of a table.
@@ -12,7 +12,7 @@ pub const MAX_WORKERS: u32 = 64;
 /// The most transactions of the stress test.
 pub const MAX_STRESS: u32 = 100_000;
 
-/// The requests of a batch, where the arguments don't say how many.
+/// The replies of a group, where the arguments don't say how many.
 pub(crate) const DEFAULT_GROUP_SIZE: u32 = 64;
 
 /// The limit on the rows of a table, where the arguments say none.

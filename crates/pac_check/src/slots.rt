@@ -44,8 +44,8 @@ impl Slots {
     ///
     /// - [`SlotError::DiskFault`] where a call of a device failed, so only where its count of faults rose; no call comes after
     ///   it.
-    /// - [`SlotError::Damaged`] exactly where an open gate isn't followed by a checkpoint of the catalogue: the first fault,
-    ///   and slot a before slot b.
+    /// - [`SlotError::Damaged`] where an open gate isn't followed by a checkpoint of the catalogue: the first fault, and slot a
+    ///   before slot b. It comes only there, and there it does unless a device failed or there was no memory.
     /// - [`SlotError::NoMemory`] where there was no memory for what is read.
     pub fn attach<D: Disk>(
         alloc: Global,
@@ -151,15 +151,15 @@ impl Slots {
         }
     }
 
-    /// Puts the checkpoint of tables into the slot that isn't the newest, slot a where none is open: the tables after so
-    /// many transactions, after which the log's gate stands at this offset. Its text is made before the first device call.
+    /// Puts the checkpoint of tables into the slot that isn't the newest, slot a where none is open: the tables after
+    /// `txns` transactions, after which the log's gate stands at this offset. Its text is made before the first device call.
     /// Where the slot's gate is open, or its device has no byte, the gate is closed first, and synced; then the text is
     /// written, synced, the gate opened, and synced. At each moment a crash leaves the other slot, and this one as it was,
     /// closed, or with the whole checkpoint.
     ///
     /// # Errors
     ///
-    /// - [`SaveError::TooLarge`] exactly where the slot would have more than 268,435,456 bytes; no device is called.
+    /// - [`SaveError::TooLarge`] only where the slot would have more than 268,435,456 bytes; no device is called.
     /// - [`SaveError::NoMemory`] where there was no memory for the text; no device is called.
     /// - [`SaveError::DiskFault`] where a call of a device failed, so only where its count of faults rose; no call comes
     ///   after it, and the slots have failed.

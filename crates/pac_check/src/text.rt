@@ -37,7 +37,7 @@ const MAX_TABLE_LEN: u64 = 8 + MAX_SAVED_ROWS * MAX_ROW_LEN;
 ///
 /// # Errors
 ///
-/// - [`SaveError::TooLarge`] exactly where the text and a gate byte are more than 268,435,456 bytes.
+/// - [`SaveError::TooLarge`] only where the text and a gate byte are more than 268,435,456 bytes.
 /// - [`SaveError::NoMemory`] where the text or a list of rows finds no room.
 pub(crate) fn checkpoint_text<R: Rows>(
     alloc: Global,

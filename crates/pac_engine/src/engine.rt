@@ -130,8 +130,8 @@ impl Engine {
     /// A fault has the replies that became durable in this step before it, and ends the engine.
     ///
     /// - [`EngineCause::Ended`] exactly where an earlier step answered a fault, or handled a stop. No device is called.
-    /// - [`EngineCause::LogFull`] exactly where the log would have more than 268,435,456 bytes with a group that is closed.
-    /// - [`EngineCause::TooLarge`] exactly where a slot would have more than 268,435,456 bytes with the checkpoint.
+    /// - [`EngineCause::LogFull`] only where the log would have more than 268,435,456 bytes with a group that is closed.
+    /// - [`EngineCause::TooLarge`] only where a slot would have more than 268,435,456 bytes with the checkpoint.
     /// - [`EngineCause::DiskFault`] where a call of a device failed, so only where the count of faults of one rose; no call of
     ///   any comes after it.
     /// - [`EngineCause::NoMemory`] where there was no memory.

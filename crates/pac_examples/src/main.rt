@@ -12,7 +12,7 @@ use std::process::ExitCode;
 use std::sync::Wait;
 use std::thread::Threads;
 
-// The words of each command, and the file that is its input.
+// The arguments of each command, and the file that is its input.
 const COMMANDS: &[(&str, &str)] = &[
     ("replay", "add.script"),
     ("replay", "fill.script"),
@@ -24,7 +24,7 @@ const COMMANDS: &[(&str, &str)] = &[
     ("recover", "/dev/null"),
 ];
 
-// Does what the words of a line say over this file, and answers the status.
+// Does what the arguments of a line say over this file, and returns the status.
 fn run<RT: AllocGlobal + Files<File = File> + Threads + Wait + Sync, O: Sink, E: Sink>(
     rt: &RT,
     line: &str,

@@ -6,7 +6,7 @@ use pac_outside::Failed;
 use std::alloc::AllocError;
 use thiserror::Error;
 
-/// Why no line was read. No byte is lost by it.
+/// Why no line was read. No byte is lost by it but those of a line that is too long to be handed out whole.
 #[derive(Clone, Copy, Debug, PartialEq, Eq, Error)]
 pub enum LineError {
     /// The source failed.

@@ -40,7 +40,7 @@ impl Model for LineReader {
 }
 
 impl LineReader {
-    /// A reader that takes at most `limit` bytes of its source, and one more that it doesn't hands out. Of a line that is longer
+    /// A reader that takes at most `limit` bytes of its source, and one more that it doesn't hand out. Of a line that is longer
     /// than `most` bytes it hands out the first `most` + 1, and doesn't hold the others.
     pub fn new(alloc: Global, limit: u32, most: u32) -> Self
         ensures { result ≡ record { state = record { line = []; ahead = []; taken = 0; limit = limit }; most = most } }
@@ -53,8 +53,8 @@ impl LineReader {
         }
     }
 
-    /// The line that the last call of [`LineReader::next_line`] went on to, without its line feed, and without what stands behind
-    /// the byte after the most that is handed out; empty where it answered that there is none, or an error.
+    /// The line that the last call of [`LineReader::next_line`] went on to, without its line feed, and cut after `most` + 1
+    /// bytes; empty where it answered that there is none, or an error.
     pub fn line(&self) -> &[u8]
         ensures { result.now ≡ take (self.now.most + 1) self.now.state.line }
     {

@@ -16,7 +16,7 @@ use std::alloc::Global;
 const FRONT_LEN: usize = 9;
 
 /// The bytes from a gate on, as far as they are looked at: up to the next gate where the gate is open, and else no more
-/// than the two numbers. Each is read once, by two calls of the device.
+/// than the two numbers. Each is read once, by two reads after a call for the length.
 pub(crate) fn bytes_from<D: Disk>(
     alloc: Global,
     disk: &mut D,

@@ -56,8 +56,8 @@ AreRuns first (run ∷ runs) last = AreFound first run.entry × AreRuns run.exit
 
 -- ---- what is committed
 
--- The transactions that are committed after a run: those before it, where it wrote nothing; or else the first of those before
--- it, which its log had, and then those that its session commits.
+-- The transactions that are committed after a run: either those before it, and then the output took nothing; or the first of
+-- those before it, which its log had, and then those that its session commits.
 abbrev pub IsNextRun : List Txn → OneRun → List Txn → Type 0
 IsNextRun history run next = ((run.ends.is.out ≡ []) × (next ≡ history)) ⊎ (next ≡ history_after history run.ends.is.rules run.ends.is.start run.ends.is.requests)
 

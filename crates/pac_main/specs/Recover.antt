@@ -47,7 +47,7 @@ pub record IsDumpOfPrefix (limit : ℕ) (catalogue : CatalogueState) (history : 
 abbrev pub StaysInLimit : ℕ → CatalogueState → List Txn → ℕ → Type 0
 StaysInLimit limit catalogue history least = (tables : Tables) → AreOfPrefix catalogue history least tables → first_over limit (length catalogue.tables) tables ≡ None
 
--- no count of faults rose, of a device or of the output
+-- no fault was counted: it isn't so that the count of exactly one device rose by one, nor that of the output did
 abbrev pub IsFaultless : ObservedDevices → Observed → Type 0
 IsFaultless devices output = ¬ OneFaulted devices.faults_before devices.faults_after × ¬ AnyFaulted output
 

@@ -64,8 +64,8 @@ use std::thread::Threads;
 /// | 11 | only where the input of a replay has more than 67,108,864 bytes, or more are read in a run before a line `stop` | `input too long` |
 /// | 12 | only where a slot has no room for a checkpoint of a run, with which it would have that many bytes | `checkpoint too large BYTES` |
 ///
-/// A failing error sink changes no status. Each worker of a replay, a recovery or a stress test passes the gate before each piece
-/// that it runs.
+/// A failing error sink changes no status. One worker of a replay, a recovery or a stress test passes the gate before each
+/// piece, several before each piece that is handed out to one of them.
 pub fn pacman<RT: Threads + Wait + Sync, I: Source, O: Sink, E: Sink, D: Disk, G: Gate + Sync>(
     rt: &RT,
     alloc: Global,

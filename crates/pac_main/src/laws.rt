@@ -38,7 +38,7 @@ pub fn runs_keep_what_is_acknowledged()
 {}
 
 /// `recover` on devices that stand for a history, however they were left, gives a prefix of it with at least as many
-/// transactions as they stand for.
+/// transactions as they stand for; or it names a fault that rose, a table over the limit of rows, or that it is out of memory.
 pub fn recover_gives_what_is_acknowledged()
     ensures { (text : List ℕ) (catalogue : CatalogueState) (history : List ATxn) (least : ℕ) (left : ADevices DiskHistory) → AllStand text catalogue history least left
         → (limit status : ℕ) (devices : ObservedDevices) (output errors : Observed) (entry : ADevices DiskHistory) → all_known devices.before ≡ Some entry → AreFound left entry → RecoverEnds limit status devices output errors
@@ -46,7 +46,7 @@ pub fn recover_gives_what_is_acknowledged()
 {}
 
 /// A power cut leaves one image of each device, and nothing that isn't synced; a killed process leaves each device in its
-/// state. Both leave the devices as runs are begun on them.
+/// state, where what a read gives is one of its images. Both leave the devices as runs are begun on them.
 pub fn cuts_and_kills_are_found()
     ensures cut { (left found : ADevices DiskHistory) (images : ADevices (List ℕ)) → AreImages left images → HoldImages images found → AreFound left found }
     ensures kill { (left found : ADevices DiskHistory) → AreImages left (reads_of left) → AreAsLeft left found → AreFound left found }

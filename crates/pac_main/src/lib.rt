@@ -4,8 +4,9 @@
 //! - [`init_command`], [`run_command`], [`explain_command`]: one command alone.
 //! - [`refuse_arguments`]: the exit status for arguments that couldn't be read.
 //! - [`recovery_is_exact`]: the law over a new store, any number of runs on it, each begun on what a crash or a kill left,
-//!   and what is recovered after them. [`a_new_store_stands_for_none`], [`runs_keep_what_is_acknowledged`],
-//!   [`recover_gives_what_is_acknowledged`] and [`cuts_and_kills_are_found`] are its parts.
+//!   and what is recovered after them. [`a_new_store_stands_for_none`], [`runs_keep_what_is_acknowledged`]
+//!   and [`recover_gives_what_is_acknowledged`] are its parts. [`cuts_and_kills_are_found`]: what a power cut or a kill leaves is
+//!   what a run may begin on.
 //!
 //! ```
 //! use pac_main::pacman;

@@ -32,7 +32,7 @@ pub record AbortsIn (note : Note) (images : Images) : Type 0 where
   pub is : IsStored images stored
   pub stops : stored_outcome stored ≡ Err note
 
--- what is stored in these images is executed to the end, and the first table with more rows than the limit has this name
+-- what is stored in these images is executed to the end, and the first table with more rows than the limit has this name, and this many rows
 pub record IsOverIn (table : List ℕ) (rows limit : ℕ) (images : Images) : Type 0 where
   pub stored : Stored
   pub is : IsStored images stored
@@ -47,7 +47,8 @@ pub record IsRecoveredPrefix (catalogue : CatalogueState) (history : List Txn) (
   pub within : recovered.txns ≤ length history
   pub ends : EndsWith catalogue (take recovered.txns history) recovered.tables.rows
 
--- the first table over the limit, after some prefix of the history of at least that many transactions, has this name
+-- the first table over the limit, after some prefix of the history of at least this many transactions, has this name and this
+-- many rows
 pub record IsPrefixOverLimit (catalogue : CatalogueState) (history : List Txn) (least : ℕ) (table : List ℕ) (rows limit : ℕ) : Type 0 where
   pub count : ℕ
   pub held : Tables

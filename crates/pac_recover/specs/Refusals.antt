@@ -26,8 +26,8 @@ abbrev pub HasDamage : Damage → Devices (Option DiskHistory) → Type 0
 HasDamage (Log at kind) devices = IfKnown (λ known. IsDamagedLog at kind known.now.seen) devices.log
 HasDamage (Slot slot at kind) devices = IfImagesKnown (IsDamagedSlot slot at kind) devices
 
--- Devices are refused so for what they hold, where they are known: a stored transaction is the first that aborts, or after all of them
--- a table is the first over this limit. That a device failed, or that memory was wanting, says nothing of what they hold.
+-- Devices are refused so for what they hold, where they are known: there is no log, or this is the first damage; or a stored
+-- transaction is the first that aborts, or after all of them a table is the first over this limit. That a device failed, or that memory was wanting, says nothing of what they hold.
 abbrev pub AreRefused : ℕ → Devices (Option DiskHistory) → RecoverError → Type 0
 AreRefused limit devices (Load NoStore) = HasNoStore devices
 AreRefused limit devices (Load (Damaged damage)) = HasDamage damage devices

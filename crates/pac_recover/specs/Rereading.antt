@@ -24,7 +24,7 @@ pub record IsSought (text : List ℕ) (batches : List (List Txn)) (newest : Opti
   pub there : IsAfter text before gate
   pub number : gate.txns ≡ saved_txns newest
 
--- from one gate to another these batches were read, on whatever device; each has a transaction
+-- from one gate to another these batches were read, on whatever device; there are at least as many transactions as batches
 pub record IsWindow (old new : NextGate) (batches : List Batch) : Type 0 where
   pub catalogue : new.catalogue ≡ old.catalogue
   pub runs : RunOn old.txns batches

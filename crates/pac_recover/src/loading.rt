@@ -49,17 +49,19 @@ pub struct Loaded {
 }
 
 /// What is stored on devices. They are only read: the log to its end, each slot to the end of its checkpoint, and the newest
-/// slot a second time. All batches of the log are held in memory, and with them the bytes of one slot at a time.
+/// slot a second time. All batches of the log are held in memory, and with them 262,144 bytes of a slot at a time.
 ///
 /// # Errors
 ///
-/// - [`LoadError::NoStore`] exactly where the first device doesn't begin with the header of a log and one byte more.
-/// - [`LoadError::Damaged`] exactly where something else is wrong: the first damage, in the order of the log's batches, the
+/// - [`LoadError::NoStore`] where the first device doesn't begin with the header of a log and one byte more.
+/// - [`LoadError::Damaged`] where something else is wrong: the first damage, in the order of the log's batches, the
 ///   bytes of slot a, those of slot b, and the offset of slot a and that of slot b, each of which is to be a gate of the log
 ///   with exactly the slot's number of transactions before it.
 /// - [`LoadError::DiskFault`] where a call of a device failed, so only where the count of faults of one rose; no call of any
 ///   device comes after it.
 /// - [`LoadError::NoMemory`] where there was no memory for what is read.
+///
+/// The first two come only where this is so, and then they do unless a device failed or there was no memory.
 pub fn load<D: Disk>(alloc: Global, devices: &mut Devices<D>) -> Result<Loaded, LoadError>
     // On every device.
     ensures well_formed { IfOk result IsLoaded }

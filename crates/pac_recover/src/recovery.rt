@@ -33,8 +33,8 @@ pub struct Recovered {
 }
 
 /// Recovers the tables of a store, on devices that are only read: scans it, executes the transactions of the log after the newest
-/// slot over that one's tables, by `workers` workers, and then tests the limit of rows. Each worker passes the gate before each
-/// piece that it runs.
+/// slot over that one's tables, by `workers` workers, and then tests the limit of rows. One worker passes the gate
+/// before each piece, several before each piece that is handed out to one of them.
 ///
 /// The log is read twice. In the second reading the batches of 4,194,304 bytes are held in memory at a time, and what executes
 /// them while they are read.
@@ -42,9 +42,10 @@ pub struct Recovered {
 /// # Errors
 ///
 /// - [`RecoverError::Load`] with those of [`load`](crate::load), in its order; with `NoMemory` also where there was none for the tables.
-/// - [`RecoverError::AbortInLog`] exactly where serial execution of the stored transactions stops, with the transaction that
-///   aborts.
-/// - [`RecoverError::RowsOver`] exactly where the tables then have more rows than the limit: the first such table.
+/// - [`RecoverError::AbortInLog`] where serial execution of the stored transactions stops, with the transaction that aborts.
+/// - [`RecoverError::RowsOver`] where the tables then have more rows than the limit: the first such table.
+///
+/// Each comes only where this is so, and then it does unless a device failed or there was no memory.
 pub fn recover<D: Disk, H: Threads + Wait + Sync, G: Gate + Sync>(
     rt: &H,
     alloc: Global,

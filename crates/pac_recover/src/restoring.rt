@@ -41,9 +41,10 @@ pub struct Restored<T: TableRows> {
 /// # Errors
 ///
 /// - [`RecoverError::Load`] with those of [`load`](crate::load), in its order; with `NoMemory` also where there was none for the tables.
-/// - [`RecoverError::AbortInLog`] exactly where serial execution of the stored transactions stops, with the transaction that
-///   aborts.
-/// - [`RecoverError::RowsOver`] exactly where the tables then have more rows than the limit: the first such table.
+/// - [`RecoverError::AbortInLog`] where serial execution of the stored transactions stops, with the transaction that aborts.
+/// - [`RecoverError::RowsOver`] where the tables then have more rows than the limit: the first such table.
+///
+/// Each comes only where this is so, and then it does unless a device failed or there was no memory.
 pub fn restore<D: Disk, T: TableRows, X: Executor>(
     alloc: Global,
     executor: &X,

@@ -51,7 +51,7 @@ pub struct Scanned {
 
 /// What is stored on devices, but for the transactions. They are only read: the log to its end, each slot to the end of its
 /// checkpoint, and the newest slot a second time. One batch of the log is held in memory at a time, 16 bytes for each gate, and
-/// the bytes of one slot at a time.
+/// 262,144 bytes of a slot.
 ///
 /// # Errors
 ///

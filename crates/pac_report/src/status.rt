@@ -13,7 +13,7 @@ use std::alloc::Global;
 /// [`Name`](pac_value::Name) lends them; a device is `log`, `a` or `b`; kinds and reasons are as they are printed.
 #[derive(Clone, Copy, Debug)]
 pub enum StatusLine<'a> {
-    /// The words name no command.
+    /// The arguments name no command.
     Usage,
     /// The first fault of a catalogue's text.
     Catalogue {

@@ -64,15 +64,15 @@ pub record IsExit (text : List ℕ) (catalogue : CatalogueState) (history : List
   pub kept : (number : ℕ) → ReportsSaved out number → number < saved
   pub stands : AllLeave (StandsWith text catalogue history least saved) now
 
--- Each image at the exit is one of entry, and nothing was written; or the session began with what is stored at entry, and
+-- Each image at the exit is one of entry, and the output took nothing; or the session began with what is stored at entry, and
 -- the devices stand for the history with what it commits.
 abbrev pub AtExit : List ℕ → CatalogueState → List Txn → Rules → ℕ → SessionState → List Request → List ℕ → Devices DiskHistory → Devices DiskHistory → Type 0
 AtExit text catalogue history rules place start requests out entry now =
     ((out ≡ []) × AllLeave (AreImages entry) now)
     ⊎ (IsBegun rules place start (reads_of entry) × IsExit text catalogue (history_after history rules start requests) start.number out now)
 
--- a crash leaves one image of the log, with exactly the transactions of the groups that these requests close: as many, and up
--- to the same offset
+-- a crash leaves one image of the log: it has as many transactions as there were at the start and in the groups that these
+-- requests close, and its closed gate is at the offset after these
 pub record LogHas (rules : Rules) (place : ℕ) (start : SessionState) (requests : List Request) (state : DiskState) : Type 0 where
   pub text : List ℕ
   pub catalogue : CatalogueState
@@ -81,7 +81,7 @@ pub record LogHas (rules : Rules) (place : ℕ) (start : SessionState) (requests
   pub exactly : length (all_txns batches) ≡ closed_number rules start requests
   pub there : length (log_prefix text batches) ≡ place_after place (closed_groups rules place start requests)
 
--- each image of the log that a crash may leave has exactly those of the groups that the first of these lists closes, or the second
+-- each image of the log that a crash may leave is so with the groups that the first of these lists closes, or the second
 abbrev pub LogHasEither : Rules → ℕ → SessionState → List Request → List Request → DiskState → Type 0
 LogHasEither rules place start before requests = Leaves (λ image. LogHas rules place start before (settled image) ⊎ LogHas rules place start requests (settled image))
 
@@ -131,8 +131,8 @@ pub record IsRun (batch limit : ℕ) (left left' held held' : Option (List ℕ))
   pub prefix : IsTextPrefix out (texts rules.catalogue (replies rules start requests))
   pub whole : OnOk result (IsWholeRun rules place start requests out)
   -- (b) and (e) what the devices hold at the exit, (c) and at each moment
-  -- the log has exactly the transactions of the groups that were closed: the open one is dropped; a full log has exactly those
-  -- of the groups that were closed before the last request, and where a device failed it is one or the other
+  -- the log has as many transactions as were in the groups that were closed: the open one is dropped; a full log has those of
+  -- the groups that were closed before the last request, and where a device failed it is one or the other
   pub exact : HasWorked result → OfLog (LogHas rules place start requests) known'
   pub full : (need : ℕ) → IsErrOf result (LogFull need) → BeforeLast (λ before. OfLog (LogHas rules place start before) known') requests
   pub torn : IsErrOf result DiskFault → BeforeLast (λ before. OfLog (LogHasEither rules place start before requests) known') requests

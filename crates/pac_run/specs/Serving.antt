@@ -36,6 +36,7 @@ use Rattle.pac_run.specs.Texts.{IsTextPrefix, IsPlain, texts}
 abbrev pub KeepsEach : List Txn → EngineParts → EngineParts → Devices (Option DiskHistory) → Devices (Option DiskHistory) → Type 0
 KeepsEach more old new histories histories' = (text : List ℕ) (history : List Txn) → WhileAllKnown (StandsOn text history old) (KeepsHistory text (history ++ more) old new) histories histories'
 
+-- where the engine and the devices stood for a history, they stand for it with these transactions after it
 abbrev pub StandsForEach : List Txn → EngineParts → EngineParts → Devices (Option DiskHistory) → Devices (Option DiskHistory) → Type 0
 StandsForEach more old new histories histories' = (text : List ℕ) (history : List Txn) → WhileAllKnown (StandsOn text history old) (λ was is. StandsOn text (history ++ more) new is) histories histories'
 

@@ -109,7 +109,7 @@ abbrev pub IsUnopened : Result (Unit {0}) RunStop → List Request → Type 0
 IsUnopened (Ok done) requests = ⊥
 IsUnopened (Err stop) requests = StopsOpening stop × (requests ≡ [])
 
--- before its store was open, or where it stopped then
+-- a run stopped while it opened its store, or after that as `IsStoppedAt` says
 abbrev pub IsStopped : Rules → ℕ → SessionState → List Request → List Reply → RunStop → Type 0
 IsStopped rules place start requests given stop = (StopsOpening stop × (requests ≡ []) × (given ≡ [])) ⊎ IsStoppedAt rules place start requests given stop
 

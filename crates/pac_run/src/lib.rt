@@ -16,12 +16,12 @@
 //! that these ask and their session it says
 //!
 //! - (a) that the output is a prefix of the session's replies, and with Ok all of them;
-//! - (b) what the devices hold at the exit: what they held, and nothing was written; or the history with what the
+//! - (b) what the devices hold at the exit: what they held, and then the output took nothing; or the history with what the
 //!   session commits, and in the log each transaction that was acknowledged; and a read of a slot gives what it gave,
 //!   unless a save was asked for;
 //! - (c) what a crash at each moment leaves: what was there, or a prefix of the same history;
 //! - (d) after which groups' replies a run stops that stops before its end;
-//! - (e) that a slot has a checkpoint of at least as many transactions as the output says that one has.
+//! - (e) that where the output says `saved N`, some slot has a checkpoint of at least N transactions.
 //!
 //! `specs/Asked.antt` says what the lines of an input ask, `specs/Acked.antt` what an output acknowledges,
 //! `specs/Opening.antt` what an engine over a store begins with, `specs/Stopping.antt` where a run stops, and

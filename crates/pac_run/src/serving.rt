@@ -222,14 +222,14 @@ fn serve_lines<I: Source, O: Sink, D: Disk>(
 
 /// Serves the request lines of the input, up to a stop or to the end, which is a stop too. A line that asks nothing is
 /// skipped, and one that is refused is answered so. What the replies of a closed group say is written at once. Of a line that is
-/// too long no more is held than tells that it is.
+/// too long no more is held than shows that it is.
 ///
 /// # Errors
 ///
 /// - [`RunStop::InputFault`] and [`RunStop::OutputFault`] only where the count of faults of the input or of the output rose.
 /// - [`RunStop::DiskFault`], [`RunStop::LogFull`] and [`RunStop::TooLarge`] where a step of the engine answers them. The
 ///   replies that became durable before are written then.
-/// - [`RunStop::TooLong`] exactly where the input has a byte more than [`MAX_INPUT`], and no stop before it.
+/// - [`RunStop::TooLong`] only where the input has a byte more than [`MAX_INPUT`], and no stop before it.
 /// - [`RunStop::NoMemory`] where there was no memory.
 pub fn serve<I: Source, O: Sink, D: Disk>(
     alloc: Global,

@@ -39,7 +39,7 @@ IsNewStore text devices = (devices.log.now ≡ settled (header_bytes text ++ 0 �
 abbrev pub MakesStore : List ℕ → Devices DiskHistory → Devices DiskHistory → Type 0
 MakesStore text old new = AreEmpty old × IsNewStore text new
 
--- a device has that many bytes, and nothing was written
+-- this device is the first that has bytes, which are this many, and nothing was written
 abbrev pub IsInUse : DeviceName → ℕ → Devices DiskHistory → Devices DiskHistory → Type 0
 IsInUse device n old new = IsFirstInUse device n old × (new ≡ old)
 

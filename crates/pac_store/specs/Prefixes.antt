@@ -7,7 +7,8 @@ use Rattle.pac_types.specs.Typing.{CatalogueState}
 use Rattle.pac_store.specs.Stands.{EndsWith}
 use Rattle.pac_store.specs.Stored.{Stored}
 
--- serial execution of what is stored goes on from a prefix of the history to another, of at least that many transactions
+-- serial execution of what is stored, from its tables on, ends with the tables of a prefix of the history, of at least this many
+-- transactions
 pub record ContinuesPrefix (catalogue : CatalogueState) (history : List Txn) (least : ℕ) (stored : Stored) : Type 0 where
   pub same : stored.catalogue ≡ catalogue
   pub held : Tables

@@ -51,8 +51,8 @@ pub record StandsFor (text : List ℕ) (catalogue : CatalogueState) (history : L
   pub slot_a : IsShutOrPrefix text catalogue batches images.slot_a
   pub slot_b : IsShutOrPrefix text catalogue batches images.slot_b
 
--- A slot is open with a checkpoint that reaches so far. A checkpoint of N transactions reaches N + 1, and none reaches 0, so that
--- one of no transactions is more than none.
+-- A slot is open with a checkpoint that reaches so far. A checkpoint of N transactions reaches N + 1, and where there is no
+-- checkpoint the reach is 0, so that one of no transactions is more than none.
 pub record HasSaved (catalogue : CatalogueState) (reach : ℕ) (image : List ℕ) : Type 0 where
   pub checkpoint : Checkpoint
   pub holds : HoldsCheckpoint catalogue.tables checkpoint image

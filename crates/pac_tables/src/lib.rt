@@ -1,4 +1,4 @@
-//! The rows of tables: one trait for every form of tables, one form, and write sets that are applied all or none.
+//! The rows of tables: one trait for every form of tables, two forms, and write sets that are applied all or none.
 //!
 //! A row stands at a cell: a table's number and a key. Contracts see two things of any [`Rows`]: the number of its
 //! tables, which never changes, and one finite map from cells to rows.

@@ -36,7 +36,7 @@ pub struct Executed<R: Rows> {
 }
 
 /// Executes consecutive batches over tables, by `workers` workers. What is left is what executing their transactions one after
-/// another leaves, whichever worker runs which piece, and when. Each worker passes the gate before each piece that it runs.
+/// another leaves, whichever worker runs which piece, and when. Workers pass the gate as in [`replay`](crate::replay).
 ///
 /// # Errors
 ///
@@ -70,7 +70,7 @@ pub fn execute<R: Rows + Send, G: Gate + Sync, H: Threads + Wait + Sync>(
 }
 
 /// Executes over tables what a feed gives, by `workers` workers, while the caller's thread loads it. What is left is what
-/// executing the transactions of its batches one after another leaves. Each worker passes the gate before each piece that it runs.
+/// executing the transactions of its batches one after another leaves. Workers pass the gate as in [`replay`](crate::replay).
 ///
 /// # Errors
 ///

@@ -17,10 +17,10 @@ use std::sync::ledger::Book;
 /// The most pieces that are taken in one hold of the lock.
 pub(crate) const MAX_TAKEN: usize = 64;
 
-// Pieces are taken in one hold until they weigh so much.
+// Pieces are taken in one hold until they weigh this much.
 const FULL_WEIGHT: u64 = 1_024;
 
-// Ready pieces that weigh so much are worth a wake-up.
+// Ready pieces that weigh this much are worth a wake-up.
 const WORTH_WAKING: u64 = 64;
 
 /// What a worker does next.

@@ -17,7 +17,7 @@ pub(crate) struct Hand<M: Machine> {
 }
 
 impl<M: Machine> Hand<M> {
-    /// It holds nothing. It takes memory for so many pieces.
+    /// It holds nothing. It takes memory for `pieces` pieces.
     pub fn new(alloc: Global, pieces: usize) -> Result<Hand<M>, NoMemory> {
         Ok(Hand {
             works: VecDeque::with_capacity(alloc, pieces)?,

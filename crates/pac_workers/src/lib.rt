@@ -20,7 +20,7 @@
 //!
 //! Whatever the order in which workers get the lock, the machine that comes back is closed and finished, has the job of the one that
 //! was lent with the batches that a feed gave, and the tallies and what was drained add up to what was unfinished and to the pieces of
-//! these batches. None of this is tested when the program runs. What lies under the lock keeps by its type that its machine has the
+//! these batches. None of this is checked at run time. What lies under the lock keeps by its type that its machine has the
 //! job which a twin beside it shows, and that what was finished of it is in a ledger, of which each tally has a part. The other twin
 //! is in the hands of the caller, who alone loads; and the ledger is that of this very call.
 //!
@@ -33,7 +33,7 @@
 //! - One worker without others runs a piece in each hold of the lock. Nothing is handed out to it, and it passes the gate with each
 //!   piece.
 //! - With others, a worker hands in what it ran in one hold of the lock, and takes what comes next: up to 64 pieces, as long as what
-//!   it has weighs less than its share of what is ready and than 1,024; and it leaves a piece for each other worker. It runs them
+//!   it has weighs less than half of an equal share of what is ready, and than 1,024; and it leaves a piece for each other worker. It runs them
 //!   outside the lock. A piece that is run on the spot doesn't pass the gate.
 //! - A worker rests where no piece is ready. One that has run a piece rests too where what is ready isn't worth a wake-up,
 //!   while another worker is active: handing light pieces from thread to thread costs more than running them.

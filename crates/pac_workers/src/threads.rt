@@ -31,8 +31,9 @@ pub struct Replayed<M: Machine> {
     pub drained: u64,
 }
 
-/// Finishes a machine by `workers` workers, each of which passes the gate before each piece that it runs. One of them is the
-/// caller's thread. Where a thread can't be started, its share is left to the others.
+/// Finishes a machine by `workers` workers. One of them is the caller's thread. One worker passes the gate before each piece that
+/// it runs, several before each piece that is handed out to one of them: what is run on the spot, or drained after the workers,
+/// doesn't pass it. Where a thread can't be started, its share is left to the others.
 ///
 /// # Errors
 ///
