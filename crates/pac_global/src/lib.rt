@@ -3,8 +3,8 @@
 //! - [`catalogue_plan`]: the [`Plan`](pac_plan::Plan) of a catalogue with few operations.
 //! - [`global`]: the same of a catalogue and the programs of its procedures, for a caller that has them.
 //!
-//! `pac_plan` defines blocks: two operations are in one block exactly where each reaches the other, by data dependences
-//! and, in both directions, by conflicts. A catalogue has one plan ([`one_plan`](pac_plan::one_plan)).
+//! `pac_plan` defines blocks: two operations are in one block exactly where each reaches the other, by flows and, in
+//! both directions, by conflicts. A catalogue has one plan ([`one_plan`](pac_plan::one_plan)).
 //!
 //! ```
 //! use pac_global::catalogue_plan;

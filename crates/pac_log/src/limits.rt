@@ -7,5 +7,5 @@ pub const MAX_ENTRIES_LEN: usize = MAX_BODY_LEN - BODY_HEAD_LEN;
 /// The most bytes of a log.
 pub const MAX_LOG_LEN: u64 = 268_435_456;
 
-// No test makes a log as long as this.
+// A test fills a log up to this, over a device that computes its bytes.
 const _: () = prove!(MAX_LOG_LEN == 1 << 28);

@@ -15,8 +15,8 @@
 //! let waits = plan.blocks() > 1 && plan.has_edge(0, 1); // whether block 1 uses what block 0 defines
 //! ```
 //!
-//! `specs/Nodes.antt` says what depends on what over all procedures: data dependences within a procedure, and conflicts
-//! on a table, which has a virtual write for ad hoc transactions. `specs/Analysis.antt` says which blocks these make:
+//! `specs/Nodes.antt` says what depends on what over all procedures: flows within a procedure, and conflicts on a table,
+//! which has a virtual write for ad hoc transactions. `specs/Analysis.antt` says which blocks these make:
 //! two nodes are in one block exactly where each reaches the other. `specs/WellFormed.antt` says what a replay needs of
 //! them. The definitions say nothing of how blocks are found.
 //!

@@ -1,11 +1,11 @@
 //! The dependencies of one procedure's operations, and its slices: which operations have to keep their order.
 //!
-//! - [`dependencies`] returns the pairs of operations that depend on each other, [`Deps`]. A data dependence leads from
-//!   an operation that defines a variable to a later one that uses it. A conflict is between two operations on one
+//! - [`dependencies`] returns the pairs of operations that depend on each other, [`Deps`]. A flow leads from an
+//!   operation that defines a variable to a later one that uses it. A conflict is between two operations on one
 //!   table of which at least one modifies it.
-//! - [`slices`] returns a [`LocalGraph`]: two operations are in one slice exactly where each reaches the other, by data
-//!   dependences and, in both directions, by conflicts. Its edges are the data dependences between different slices.
-//! - [`add_flow`] adds the data dependences alone to a graph, for a caller that links operations on tables in its own
+//! - [`slices`] returns a [`LocalGraph`]: two operations are in one slice exactly where each reaches the other, by flows
+//!   and, in both directions, by conflicts. Its edges are the flows between different slices.
+//! - [`add_flow`] adds the flows alone to a graph, for a caller that links operations on tables in its own
 //!   way.
 //! - [`one_local_graph`] is a law: a function without code whose clause says that a procedure has one local graph.
 //!

@@ -1,4 +1,4 @@
-// The tree of a catalogue: one node for each rule of the grammar, with the offset of each name and expression.
+// The tree of a catalogue: tables, procedures, statements and expressions, with the offset of each name, literal and expression.
 use pac_base::{Boxed, Listed};
 use pac_value::{BinOp, Name, Ty, Value};
 
