@@ -13,32 +13,41 @@ use Rattle.pac_arguments.specs.Found.{plain_app, with_option, with_flag, with_op
 abbrev pub with_two : Text → Text → Text → App
 with_two name first second = with_option second (with_option first (plain_app name))
 
+-- init
 abbrev pub init_app : App
 init_app = plain_app (codes "init")
 
+-- run, with --batch and --rows
 abbrev pub run_app : App
 run_app = with_two (codes "run") (codes "batch") (codes "rows")
 
+-- recover, with --workers and --rows
 abbrev pub recover_app : App
 recover_app = with_two (codes "recover") (codes "workers") (codes "rows")
 
+-- explain, with --text
 abbrev pub explain_app : App
 explain_app = with_flag (codes "text") (plain_app (codes "explain"))
 
+-- replay, with --workers and --rows
 abbrev pub replay_app : App
 replay_app = with_two (codes "replay") (codes "workers") (codes "rows")
 
+-- stress, with a count and --workers
 abbrev pub stress_app : App
 stress_app = with_option (codes "workers") (with_operand (codes "count") (plain_app (codes "stress")))
 
 -- ---- their numbers
 
+-- how many replies a group may hold
 abbrev pub group_size_in : List Row → Option ℕ
 group_size_in = option_number (codes "batch") DEFAULT_GROUP_SIZE MAX_GROUP_SIZE
 
+-- the limit on rows
 abbrev pub rows_in : List Row → Option ℕ
 rows_in = option_number (codes "rows") DEFAULT_ROWS MAX_ROWS
 
+-- how many workers there are
 abbrev pub workers_in : List Row → Option ℕ
 workers_in = option_number (codes "workers") DEFAULT_WORKERS MAX_WORKERS
 
@@ -52,33 +61,43 @@ both make a b = option_and_then (λ m. option_map (λ n. make m n) b) a
 
 -- ---- what the arguments of each command say, by what clap finds in them
 
+-- run, by what clap finds
 abbrev pub run_of : List Row → Option Command
 run_of rows = both (λ group_size limit. the.Run group_size limit) (group_size_in rows) (rows_in rows)
 
+-- recover, by what clap finds
 abbrev pub recover_of : List Row → Option Command
 recover_of rows = both (λ workers limit. the.Recover workers limit) (workers_in rows) (rows_in rows)
 
+-- replay, by what clap finds
 abbrev pub replay_of : List Row → Option Command
 replay_of rows = both (λ workers limit. the.Replay workers limit) (workers_in rows) (rows_in rows)
 
+-- stress, by what clap finds
 abbrev pub stress_of : List Row → Option Command
 stress_of rows = both (λ count workers. the.Stress count workers) (count_in rows) (workers_in rows)
 
+-- init, by its arguments
 abbrev pub init_said : List Text → Option Command
 init_said arguments = option_map (λ rows. the.Init) (found_rows init_app arguments)
 
+-- run, by its arguments
 abbrev pub run_said : List Text → Option Command
 run_said arguments = option_and_then run_of (found_rows run_app arguments)
 
+-- recover, by its arguments
 abbrev pub recover_said : List Text → Option Command
 recover_said arguments = option_and_then recover_of (found_rows recover_app arguments)
 
+-- explain, by its arguments
 abbrev pub explain_said : List Text → Option Command
 explain_said arguments = option_map (λ rows. the.Explain (is_set (codes "text") rows)) (found_rows explain_app arguments)
 
+-- replay, by its arguments
 abbrev pub replay_said : List Text → Option Command
 replay_said arguments = option_and_then replay_of (found_rows replay_app arguments)
 
+-- stress, by its arguments
 abbrev pub stress_said : List Text → Option Command
 stress_said arguments = option_and_then stress_of (found_rows stress_app arguments)
 

@@ -28,6 +28,7 @@ with_operand name app = with_rule app (record (new_rule name) { required = true;
 unfoldable pub found_rows : App → List Text → Option (List Row)
 found_rows app arguments = if is_empty (fault_of app arguments) then Some (matches_of app arguments) else None
 
+-- the number that a value is, or the default where there is no value
 abbrev pub number_or : ℕ → ℕ → Option Text → Option ℕ
 number_or default most None = Some default
 number_or default most (Some text) = number_up_to most text
@@ -36,6 +37,7 @@ number_or default most (Some text) = number_up_to most text
 abbrev pub option_number : Text → ℕ → ℕ → List Row → Option ℕ
 option_number id default most rows = number_or default most (first_of id rows)
 
+-- the value is there, and is true
 abbrev pub says_true : Option Text → Bool
 says_true None = false
 says_true (Some text) = bytes_eq text (codes "true")

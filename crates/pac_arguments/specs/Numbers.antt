@@ -2,6 +2,7 @@
 use Rattle.std.specs.Prelude.{ℕ, ◌+◌, ◌-◌, ◌*◌, Bool, ◌&&◌, nat_le, List, length, fold, Option, Some, None, if◌then◌else◌, option_and_then}
 use Rattle.std.specs.List.{list_all}
 
+-- a decimal digit
 abbrev pub is_decimal : ℕ → Bool
 is_decimal b = nat_le 48 b && nat_le b 57
 
@@ -17,6 +18,7 @@ is_number text = nat_le 1 (length text) && (nat_le (length text) 8 && list_all i
 abbrev pub spelled_number : List ℕ → Option ℕ
 spelled_number text = if is_number text then Some (digits_number text) else None
 
+-- a number from 1 up to this
 abbrev pub one_to : ℕ → ℕ → Option ℕ
 one_to most n = if nat_le 1 n && nat_le n most then Some n else None
 

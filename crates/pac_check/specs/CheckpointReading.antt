@@ -44,7 +44,7 @@ unfoldable pub next_rows : Table → ℕ → Option Key → Rest → Result (Lis
 next_rows table zero before s = Ok ([], s)
 next_rows table (suc n) before s = next_row table before s >>= λ row. next_rows table n (Some row.0.0) row.1 >>= λ rows. Ok (row.0 ∷ rows.0, rows.1)
 
--- how many rows this table has, and they
+-- how many rows this table has, and the rows
 unfoldable pub next_table : Table → Rest → Result (List KeyedRow × Rest) SlotFault
 next_table table s = slot_number w64 s >>= λ count. next_rows table count.0 None count.1
 

@@ -39,7 +39,7 @@ head_bytes tables head = checkpoint_name ++ (to_le_bytes w64 head.txns ++ (to_le
 abbrev pub keyed_bytes : KeyedRow → List ℕ
 keyed_bytes row = key_bytes row.0 ++ values_bytes row.1
 
--- how many rows a table has, and they
+-- how many rows a table has, and the rows
 abbrev pub rows_bytes : List KeyedRow → List ℕ
 rows_bytes rows = to_le_bytes w64 (length rows) ++ flat_map keyed_bytes rows
 
@@ -69,7 +69,7 @@ IsKeyedRow table row = KeyHasType table.key row.0 × HaveTypes (types table.colu
 abbrev pub IsRowAfter : Table → Option Key → KeyedRow → Type 0
 IsRowAfter table before row = IsKeyedRow table row × (is_above before row.0 ≡ true)
 
--- rows of the table, by ascending keys, that many that 64 bits hold their number
+-- rows of the table, by ascending keys, whose number has 64 bits
 pub record AreRowsOf (table : Table) (rows : List KeyedRow) : Type 0 where
   pub each : AllByRecursion (IsKeyedRow table) rows
   pub ascending : AreAscending None rows

@@ -17,7 +17,7 @@ HasByte Empty = ⊥
 HasByte Closed = Unit {0}
 HasByte (Open head) = Unit {0}
 
--- a text that is put after the gate, and a slot that was as it was, or is shut, or open with the whole text
+-- while a text is put after the gate: the slot is as it was, or shut, or open with the whole text
 abbrev pub IsOldShutOrNew : List ℕ → List ℕ → List ℕ → Type 0
 IsOldShutOrNew old text image = (image ≡ old) ⊎ (IsShut [] image ⊎ IsOpen [] text image)
 

@@ -73,11 +73,11 @@ handed_in_by finish.Kept = 1
 handed_in_by (finish.Foreign back) = 0
 handed_in_by (finish.NoMemory back) = 0
 
--- at most other pieces are out
+-- all is as it was, but perhaps for which pieces are out
 abbrev pub MovesOut : Replay → Replay → Type 0
 MovesOut old new = new ≡ record old { out = new.out }
 
--- own work that is given back: its piece is out no more
+-- work is given back: where it is own work, its piece is out no more; else all is as it was
 abbrev pub IsGivenBack : Replay → Work → Replay → Type 0
 IsGivenBack old work new = (IsOwn old work → new ≡ without_out old work.piece) × ((IsOwn old work → ⊥) → new ≡ old)
 

@@ -49,7 +49,7 @@ mark (Some (Open opening)) p = unwrap_or (state_of_piece opening.sched p) state.
 abbrev pub mark_in : List Batch → List (Kept SetStage) → PieceId → PieceState
 mark_in batches sets p = mark (kept_of (set_of_piece batches p) sets) p
 
--- the loaded pieces that are so far, in order
+-- the loaded pieces whose state passes the test, in order
 abbrev pub pieces_marked : (PieceState → Bool) → Job → List Batch → List (Kept SetStage) → List PieceId
 pieces_marked test job batches sets = filter (λ p. test (mark_in batches sets p)) (pieces_of job batches)
 
@@ -57,7 +57,7 @@ pieces_marked test job batches sets = filter (λ p. test (mark_in batches sets p
 abbrev pub batches_of : Progress → List Batch
 batches_of p = map (λ (loaded : LoadedBatch). loaded.batch) p.batches.items
 
--- the replay of a job that is so far
+-- the replay of a job with this progress
 abbrev pub replay_so_far : Job → Progress → Replay
 replay_so_far job p = record {
   job = job;

@@ -102,7 +102,7 @@ pub record IsReadyAtOffset (p : Progress) (at : ℕ) (piece : PieceId) : Type 0 
   pub stands : StandsOpen p at
   pub picked : pick stands.opening.sched ≡ Piece piece
 
--- a piece is that of the first transaction that is left of an open set, and has this place
+-- a piece is that of the first transaction that is left of a set that waits and may be opened, and has this place
 pub record IsFirstLeft (p : Progress) (place : Place) (piece : PieceId) : Type 0 where
   pub txn : IsTxnIn p.batches.items piece.txn place.batch place.index
   pub rest : List ℕ
@@ -214,7 +214,8 @@ pub record StandsWaiting (p : Progress) (at : ℕ) : Type 0 where
   pub rest : List ℕ
   pub there : slice_get p.sets.sets at ≡ Some (set, Some (Waiting (first ∷ rest)))
 
--- the first piece of a set that waits may be finished: its transaction has room for values, and it is counted
+-- the first piece of a set that waits may be finished: all that its set waits for is finished, its batch is loaded, and it is
+-- counted
 pub record MayFinishFirst (p : Progress) (place : Place) : Type 0 where
   pub stands : StandsWaiting p place.at
   pub loaded : LoadedBatch

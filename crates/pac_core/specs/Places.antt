@@ -31,7 +31,7 @@ pub record IsTxnIn (batches : List LoadedBatch) (t batch index : ℕ) : Type 0 w
 abbrev pub IsTxnNowhere : List LoadedBatch → ℕ → Type 0
 IsTxnNowhere batches t = (batch index : ℕ) → IsTxnIn batches t batch index → ⊥
 
--- a piece of the open set at an offset stands at a position in it, and is so far
+-- a piece of the open set at an offset stands at a position in it, and has this state
 pub record IsPieceIn (p : Progress) (at : ℕ) (piece : PieceId) (position : ℕ) (far : PieceState) : Type 0 where
   pub set : SetId
   pub opening : OpenSet
@@ -39,7 +39,7 @@ pub record IsPieceIn (p : Progress) (at : ℕ) (piece : PieceId) (position : ℕ
   pub position_is : position_of opening.sched piece ≡ Some position
   pub far_is : slice_get opening.sched.states position ≡ Some far
 
--- a piece of an open set has this place, and is so far
+-- a piece of an open set has this place and this state
 pub record IsPieceAt (p : Progress) (place : Place) (piece : PieceId) (far : PieceState) : Type 0 where
   pub txn : IsTxnIn p.batches.items piece.txn place.batch place.index
   pub stands : IsPieceIn p place.at piece place.position far

@@ -30,8 +30,9 @@ IsHeldBy number (reply.Saved txns) = ⊥
 abbrev pub AreHeld : Open → Type 0
 AreHeld now = AllByRecursion (IsHeldBy (now.before + length now.txns)) now.held
 
--- An engine that works: neither its log nor its slots have failed, both are of the session's catalogue and have what was
--- committed before the open group; each transaction of the group has a reply. The tables are few enough to be saved, and no checkpoint is ahead of the log.
+-- An engine that works: neither its log nor its slots have failed; the log is of the session's catalogue and has as many
+-- transactions as were committed before the open group, which has no fewer replies than transactions. The limit on rows allows
+-- tables to be saved, and no checkpoint is ahead of the log.
 pub record IsWorking (engine : EngineParts) : Type 0 where
   pub waits : engine.log.stage ≡ Waiting
   pub works : engine.slots.has_failed ≡ false

@@ -25,6 +25,7 @@ abbrev pub reach_of : Option SlotInfo → ℕ
 reach_of None = 0
 reach_of (Some info) = info.txns + 1
 
+-- how far the newest checkpoint of an engine's slots reaches
 abbrev pub saved_of : EngineParts → ℕ
 saved_of engine = reach_of (newest_of engine.slots)
 
@@ -74,7 +75,7 @@ pub record KeepsHistory (text : List ℕ) (history : List Txn) (before now : Eng
   pub moments : RunLeaves (MayLeave text before.session.catalogue history before) old new
   pub end : AllLeave (MayLeave text before.session.catalogue history now) new
 
--- what is reported before, if it has P, and after has R; it is reported after where it was before
+-- where what is known before has P, it is known after too, and the two have R
 abbrev pub WhileKnown : (Devices DiskHistory → Type 0) → (Devices DiskHistory → Devices DiskHistory → Type 0) → Option (Devices DiskHistory) → Option (Devices DiskHistory) → Type 0
 WhileKnown P R None new = Unit {0}
 WhileKnown P R (Some old) None = P old → ⊥

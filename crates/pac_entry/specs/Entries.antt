@@ -15,7 +15,7 @@ use Rattle.pac_types.specs.Typing.{CatalogueState}
 use Rattle.pac_bytes.specs.Values.{HasBytes}
 use Rattle.pac_bytes.specs.Typed.{key_bytes, values_bytes}
 
--- the number of values, and they
+-- the number of values, and the values
 abbrev pub counted_bytes : List Value → List ℕ
 counted_bytes values = length values ∷ values_bytes values
 
@@ -24,7 +24,7 @@ abbrev pub change_bytes : Change → List ℕ
 change_bytes (Put table key row) = 1 ∷ (to_le_bytes w16 table ++ (key_bytes key ++ counted_bytes row))
 change_bytes (Delete table key) = 2 ∷ (to_le_bytes w16 table ++ key_bytes key)
 
--- a call is the tag 1, the procedure and the arguments; an ad hoc transaction is the tag 2, the number of records, and they
+-- a call is the tag 1, the procedure and the arguments; an ad hoc transaction is the tag 2, the number of records, and the records
 abbrev pub txn_bytes : Txn → List ℕ
 txn_bytes (Call call) = 1 ∷ (to_le_bytes w16 call.proc ++ counted_bytes call.args)
 txn_bytes (AdHoc records) = 2 ∷ (length records ∷ flat_map change_bytes records)
@@ -34,7 +34,7 @@ abbrev pub ChangeHasBytes : Change → Type 0
 ChangeHasBytes (Put table key row) = HasBytes (key_value key) × All HasBytes row
 ChangeHasBytes (Delete table key) = HasBytes (key_value key)
 
--- each value has bytes, and there are no more records than their number can say: so is each transaction by its type
+-- each value has bytes, and there are 1 to 64 records; every transaction is so by its type
 abbrev pub TxnHasBytes : Txn → Type 0
 TxnHasBytes (Call call) = All HasBytes call.args
 TxnHasBytes (AdHoc records) = HasOneTo MAX_RECORDS records × All ChangeHasBytes records

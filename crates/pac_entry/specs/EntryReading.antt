@@ -61,7 +61,7 @@ unfoldable pub next_change : List Table → Rest → Result (Change × Rest) Ent
 next_change tables s = entry_byte s
     >>= λ tag. if nat_eq tag.0 1 then next_put tables tag.1 else (if nat_eq tag.0 2 then next_delete tables tag.1 else Err (fault_at Tag s.at))
 
--- the number of records, which is no less than one and not too large, and they
+-- the number of records, which is no less than one and not too large, and the records
 unfoldable pub next_records : List Table → Rest → Result (List Change × Rest) EntryFault
 next_records tables s = entry_byte s
     >>= λ n. if nat_eq n.0 0 || nat_lt MAX_RECORDS n.0 then Err (fault_at TooMany s.at) else times (next_change tables) n.0 n.1

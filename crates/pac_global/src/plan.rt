@@ -22,11 +22,12 @@ use std::alloc::Global;
 /// write. A block is numbered once those with an edge into it are, and of those that are ready the one with the first
 /// operation is next, where virtual writes come after all operations.
 ///
-/// It takes time that grows with the operations of all procedures, and within a procedure with their square.
+/// It takes time that grows with the square of the operations and tables together, by a word for each 64 pairs, and within a
+/// procedure by a step for each pair.
 ///
 /// # Errors
 ///
-/// [`NoMemory`] where the plan, or what finds it, finds no room; the programs are given up then.
+/// [`NoMemory`] where the plan, or what finds it, finds no room; the programs are dropped then.
 pub fn global(alloc: Global, cat: &Catalogue, programs: Vec<Program>) -> Result<Plan, NoMemory>
     requires well_formed { AreWellFormedPrograms (map shape cat.now.tables) programs.items }
     requires few { length programs.items ≤ MAX_PROCS }

@@ -7,9 +7,11 @@ use Rattle.pac_value.specs.Ascii.{line_feed}
 abbrev pub has_feed : List ℕ → Bool
 has_feed text = list_any (λ b. nat_eq b line_feed) text
 
+-- a line feed stands in the text
 abbrev pub HasFeed : List ℕ → Type 0
 HasFeed text = has_feed text ≡ true
 
+-- no line feed stands in the text
 abbrev pub HasNoFeed : List ℕ → Type 0
 HasNoFeed text = has_feed text ≡ false
 
@@ -43,6 +45,7 @@ abbrev pub last_line : List ℕ → List (List ℕ)
 last_line [] = []
 last_line (b ∷ bs) = (b ∷ bs) ∷ []
 
+-- all lines, the last one too
 abbrev pub all_lines : Lines → List (List ℕ)
 all_lines lines = lines.whole ++ last_line lines.rest
 

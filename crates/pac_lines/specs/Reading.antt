@@ -16,7 +16,7 @@ pub record ReaderState : Type 0 where
   pub taken : ℕ
   pub limit : ℕ
 
--- the last byte is one too many, and before it is no line feed
+-- there are bytes, and no line feed stands before the last of them
 pub record HasNoLine (bytes : List ℕ) : Type 0 where
   pub some : 0 < length bytes
   pub prefix : HasNoFeed (take (length bytes - 1) bytes)

@@ -65,7 +65,7 @@ use std::thread::Threads;
 /// | 12 | only where a slot has no room for a checkpoint of a run, with which it would have that many bytes | `checkpoint too large BYTES` |
 ///
 /// A failing error sink changes no status. One worker of a replay, a recovery or a stress test passes the gate before each
-/// piece, several before each piece that is handed out to one of them.
+/// piece that it runs, several before each piece that is handed out to one of them.
 pub fn pacman<RT: Threads + Wait + Sync, I: Source, O: Sink, E: Sink, D: Disk, G: Gate + Sync>(
     rt: &RT,
     alloc: Global,

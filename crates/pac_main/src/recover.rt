@@ -38,7 +38,7 @@ fn write_recovered<RT: Threads + Wait + Sync, O: Sink, D: Disk, G: Gate + Sync>(
 }
 
 /// Writes the dump of the tables that are recovered of the devices, and reports why where that stops before its end. The
-/// devices are only read. One worker passes the gate before each piece, several before each that is handed out to one.
+/// devices are only read. One worker passes the gate before each piece that it runs, several before each that is handed out to one.
 pub(crate) fn recover_devices<RT: Threads + Wait + Sync, O: Sink, E: Sink, D: Disk, G: Gate + Sync>(
     rt: &RT,
     alloc: Global,

@@ -31,7 +31,8 @@ AnswersAs (Ok x) meaning = meaning ≡ Ok x
 AnswersAs (Err (Abort reason)) meaning = meaning ≡ Err reason
 AnswersAs (Err NoMemory) meaning = Unit {0}
 
--- the expressions of an operation have types over the values that there are
+-- the expressions of an operation have types over the values that there are, those of keys and columns types that are stored, and
+-- a row is neither empty nor too wide
 abbrev pub CanDo : Values → OpKind → Type 0
 CanDo env (Let x e) = IsSome (type_in (types_of env) e)
 CanDo env (Cond x e) = IsSome (type_in (types_of env) e)

@@ -1,4 +1,4 @@
--- The value of code and of work in the words of the plan.
+-- What the plan says of the value of code and of work, and how that value depends on the access.
 use Rattle.std.specs.Prelude.{◌≡◌, ℕ, true, List, Option, Some}
 use Rattle.std.specs.FinMap.{get}
 use Rattle.pac_value.specs.Expressions.{Values}

@@ -14,8 +14,9 @@ use Rattle.pac_piece.specs.declared.work.Work.{Work}
 use Rattle.pac_piece.specs.Frames.{AreAmong}
 use Rattle.pac_piece.specs.Values.{copied}
 
--- a plan, a transaction that fits it and rows that fit it, over which the transaction leaves the piece's inputs, and no other
--- values are there; the code is that of the transaction in the block, and the rows that the piece finds fit their tables
+-- a plan, a transaction that fits it and rows that fit it, over which the transaction leaves the piece's inputs and every other
+-- value that the piece begins with; the code is that of the transaction in the block, and the rows that the piece finds fit
+-- their tables
 pub record IsRunnableOver (block : ℕ) (piece_code : Code) (env : Values) (base : Tables) : Type 0 where
   pub parts : PlanParts
   pub is_plan : IsPlan parts

@@ -41,7 +41,7 @@ var_left (Leaves row) = None
 abbrev pub GivesValueOf : OpKind → ℕ → Expr → Type 0
 GivesValueOf kind var e = (kind ≡ Let var e) ⊎ (kind ≡ Cond var e)
 
--- an effect was had
+-- an effect was applied
 pub record Applies {K : Type 0} (Adds : K → ℕ → Value → K → Type 0) (cell : Option Cell) (e : Effect) (old new : Frame K) : Type 0 where
   pub state : (base : Tables) → state_seen base new ≡ with_effect cell e (state_seen base old)
   pub note : new.note ≡ old.note

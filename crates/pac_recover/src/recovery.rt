@@ -34,7 +34,7 @@ pub struct Recovered {
 
 /// Recovers the tables of a store, on devices that are only read: scans it, executes the transactions of the log after the newest
 /// slot over that one's tables, by `workers` workers, and then tests the limit of rows. One worker passes the gate
-/// before each piece, several before each piece that is handed out to one of them.
+/// before each piece that it runs, several before each piece that is handed out to one of them.
 ///
 /// The log is read twice. In the second reading the batches of 4,194,304 bytes are held in memory at a time, and what executes
 /// them while they are read.

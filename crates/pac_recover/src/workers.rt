@@ -23,7 +23,7 @@ use std::sync::Wait;
 use std::thread::Threads;
 
 /// What batches that run on after the first `before` transactions give over tables, by `workers` workers. One passes the
-/// gate before each piece, several before each piece that is handed out to one of them.
+/// gate before each piece that it runs, several before each piece that is handed out to one of them.
 ///
 /// # Errors
 ///

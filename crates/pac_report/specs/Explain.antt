@@ -81,5 +81,6 @@ blocks_text cat plan = flat_map (block_line cat plan) (range_with_len 0 plan.blo
 
 -- ---- all of it
 
+-- the slices of all procedures, and then the blocks
 abbrev pub explain_text : CatalogueState → List LocalGraph → PlanParts → List ℕ
 explain_text cat graphs plan = procs_text cat.procs graphs ++ blocks_text cat plan

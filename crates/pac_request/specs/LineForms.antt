@@ -67,15 +67,19 @@ verb_word verb.Flush = codes "flush"
 verb_word verb.Save = codes "save"
 verb_word verb.Stop = codes "stop"
 
+-- the word of a line, at an offset
 abbrev pub verb_token : Verb → ℕ → Spanned
 verb_token v at = record { token = token.Name (verb_word v); at = at }
 
+-- a keyword, at an offset
 abbrev pub keyword_token : Keyword → ℕ → Spanned
 keyword_token k at = record { token = token.Keyword k; at = at }
 
+-- a symbol, at an offset
 abbrev pub symbol_token : Symbol → ℕ → Spanned
 symbol_token s at = record { token = token.Symbol s; at = at }
 
+-- the tokens of a literal
 abbrev pub literal_tokens : LiteralForm → List Spanned → List Spanned
 literal_tokens (AnInt at z) rest = record { token = token.Int z; at = at } ∷ rest
 literal_tokens (ANegative minus at z) rest = symbol_token symbol.Minus minus ∷ record { token = token.Negative z; at = at } ∷ rest
@@ -83,14 +87,17 @@ literal_tokens (AText at text) rest = record { token = token.Text text; at = at 
 literal_tokens (ATrue at) rest = keyword_token keyword.True at ∷ rest
 literal_tokens (AFalse at) rest = keyword_token keyword.False at ∷ rest
 
+-- the tokens of further literals
 abbrev pub literals_before : LiteralsForm → List Spanned → List Spanned
 literals_before NoLiteral rest = rest
 literals_before (OneLiteral comma l ls) rest = symbol_token symbol.Comma comma ∷ literal_tokens l (literals_before ls rest)
 
+-- the tokens of arguments
 abbrev pub arguments_before : ArgumentsForm → List Spanned → List Spanned
 arguments_before NoArgument rest = rest
 arguments_before (SomeArguments l ls) rest = literal_tokens l (literals_before ls rest)
 
+-- the tokens of a record
 abbrev pub record_before : RecordForm → List Spanned → List Spanned
 record_before (PutForm p0 name p1 key p2 p3 p4 l ls p5) rest =
     keyword_token keyword.Put p0 ∷ name_token name ∷ symbol_token symbol.OpenBracket p1 ∷ literal_tokens key (symbol_token symbol.CloseBracket p2
@@ -98,6 +105,7 @@ record_before (PutForm p0 name p1 key p2 p3 p4 l ls p5) rest =
 record_before (DeleteForm p0 name p1 key p2) rest =
     keyword_token keyword.Delete p0 ∷ name_token name ∷ symbol_token symbol.OpenBracket p1 ∷ literal_tokens key (symbol_token symbol.CloseBracket p2 ∷ rest)
 
+-- the tokens of further records
 abbrev pub records_tokens : RecordsForm → List Spanned
 records_tokens NoRecord = []
 records_tokens (OneRecord semicolon r rs) = symbol_token symbol.Semicolon semicolon ∷ record_before r (records_tokens rs)
@@ -122,22 +130,27 @@ placed_literal (AText at text) = record { at = at; value = value.Text text }
 placed_literal (ATrue at) = record { at = at; value = value.Bool true }
 placed_literal (AFalse at) = record { at = at; value = value.Bool false }
 
+-- further literals
 abbrev pub literals_nodes : LiteralsForm → List PlacedLiteral
 literals_nodes NoLiteral = []
 literals_nodes (OneLiteral comma l ls) = placed_literal l ∷ literals_nodes ls
 
+-- arguments
 abbrev pub arguments_nodes : ArgumentsForm → List PlacedLiteral
 arguments_nodes NoArgument = []
 arguments_nodes (SomeArguments l ls) = placed_literal l ∷ literals_nodes ls
 
+-- a record
 abbrev pub record_node : RecordForm → RecordNode
 record_node (PutForm p0 name p1 key p2 p3 p4 l ls p5) = record_.Put name (placed_literal key) (placed_literal l ∷ literals_nodes ls)
 record_node (DeleteForm p0 name p1 key p2) = record_.Delete name (placed_literal key)
 
+-- further records
 abbrev pub records_nodes : RecordsForm → List RecordNode
 records_nodes NoRecord = []
 records_nodes (OneRecord semicolon r rs) = record_node r ∷ records_nodes rs
 
+-- a line
 abbrev pub line_node : LineForm → LineNode
 line_node EmptyForm = line.Empty
 line_node (CallForm p0 name p1 args p2) = line.Call name (arguments_nodes args)
@@ -149,6 +162,7 @@ line_node (StopForm p0) = line.Stop
 
 -- ---- lines
 
+-- how many further records there are
 abbrev pub records_count : RecordsForm → ℕ
 records_count NoRecord = 0
 records_count (OneRecord semicolon r rs) = suc (records_count rs)

@@ -60,6 +60,7 @@ abbrev pub first_some : Option LineSteps → Option LineSteps → Option LineSte
 first_some (Some k) other = Some k
 first_some None other = other
 
+-- an int, at the offset of its first token
 abbrev pub placed_int : ℕ → ℤ → PlacedLiteral
 placed_int at z = record { at = at; value = value.Int z }
 
@@ -75,6 +76,7 @@ literal_of_token _ at = None
 abbrev pub literal_steps : Token → ℕ → (PlacedLiteral → LineSteps) → Option LineSteps
 literal_steps t at k = first_some (option_map k (literal_of_token t at)) (where_symbol symbol.Minus t (SomeNegative at k))
 
+-- the int after a literal's -
 abbrev pub negative_steps : Token → ℕ → (PlacedLiteral → LineSteps) → Option LineSteps
 negative_steps (token.Negative z) minus k = Some (k (placed_int minus z))
 negative_steps _ minus k = None
@@ -87,9 +89,11 @@ named_cell_steps k = SomeName (λ name. ThisSymbol symbol.OpenBracket (SomeLiter
 abbrev pub row_steps : (List PlacedLiteral → LineSteps) → LineSteps
 row_steps k = ThisSymbol symbol.Assign (ThisSymbol symbol.OpenParen (SomeLiteral (λ l. MoreLiterals (l ∷ []) k)))
 
+-- a put after its word
 abbrev pub put_record_steps : (RecordNode → LineSteps) → LineSteps
 put_record_steps k = named_cell_steps (λ name key. row_steps (λ values. k (record_.Put name key values)))
 
+-- a delete after its word
 abbrev pub delete_record_steps : (RecordNode → LineSteps) → LineSteps
 delete_record_steps k = named_cell_steps (λ name key. k (record_.Delete name key))
 
@@ -111,6 +115,7 @@ verb_named n =
     (if bytes_eq n (verb_word verb.Show) then Some verb.Show else (if bytes_eq n (verb_word verb.Flush) then Some verb.Flush else
     (if bytes_eq n (verb_word verb.Save) then Some verb.Save else (if bytes_eq n (verb_word verb.Stop) then Some verb.Stop else None)))))
 
+-- the line's word that a token is, if it is one
 abbrev pub verb_in : Token → Option Verb
 verb_in (token.Name n) = verb_named n
 verb_in _ = None

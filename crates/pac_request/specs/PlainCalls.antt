@@ -51,6 +51,7 @@ abbrev pub argument_at : List PlacedLiteral → (List PlacedLiteral → LineStep
 argument_at [] k = AllArguments k
 argument_at ls k = SomeLiteral (λ l. MoreLiterals (ls ++ (l ∷ [])) k)
 
+-- there is no literal
 abbrev pub is_none : List PlacedLiteral → Bool
 is_none [] = true
 is_none _ = false

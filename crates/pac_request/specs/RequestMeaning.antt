@@ -34,6 +34,7 @@ value_of ty.Int (value.Int z) = Some (value.Int z)
 value_of ty.Text (value.Text text) = Some (value.Text text)
 value_of _ _ = None
 
+-- the same as a key
 abbrev pub key_of : Ty → Value → Option Key
 key_of ty.Int (value.Int z) = Some (key.Int z)
 key_of ty.Text (value.Text text) = Some (key.Text text)
@@ -43,6 +44,7 @@ key_of _ _ = None
 abbrev pub asked_value : Ty → PlacedLiteral → Result Value LineFault
 asked_value wanted l = ok_or (value_of wanted l.value) (line_fault WrongType l.at)
 
+-- a literal where a key of this type is wanted
 abbrev pub asked_key : Ty → PlacedLiteral → Result Key LineFault
 asked_key wanted l = ok_or (key_of wanted l.value) (line_fault WrongType l.at)
 
@@ -51,7 +53,7 @@ unfoldable pub asked_values : List Ty → List PlacedLiteral → Result (List Va
 asked_values (wanted ∷ more) (l ∷ ls) = asked_value wanted l >>= λ v. asked_values more ls >>= λ vs. Ok (v ∷ vs)
 asked_values _ _ = Ok []
 
--- the same where they have to be as many; if not, that is reported at the name before them
+-- the literals, where they are as many as the types; if not, that is reported at the name before them
 abbrev pub counted_literals : NameNode → List Ty → List PlacedLiteral → Result (List PlacedLiteral) LineFault
 counted_literals name wanted ls = if nat_eq (length wanted) (length ls) then Ok ls else Err (line_fault WrongCount name.at)
 
@@ -59,6 +61,7 @@ counted_literals name wanted ls = if nat_eq (length wanted) (length ls) then Ok 
 abbrev pub named_proc : List Proc → NameNode → Result ℕ LineFault
 named_proc procs name = ok_or (number_of (map (λ proc. proc.name) procs) name.name) (line_fault UnknownName name.at)
 
+-- the number of the table with this name
 abbrev pub named_table : List Table → NameNode → Result ℕ LineFault
 named_table tables name = ok_or (number_of (map (λ table. table.name) tables) name.name) (line_fault UnknownName name.at)
 
@@ -66,6 +69,7 @@ named_table tables name = ok_or (number_of (map (λ table. table.name) tables) n
 abbrev pub proc_at : List Proc → NameNode → Result (ℕ × Proc) LineFault
 proc_at procs name = named_proc procs name >>= λ number. ok_or (slice_get procs number) (line_fault UnknownName name.at) >>= λ proc. Ok (number, proc)
 
+-- the table with this name
 abbrev pub table_at : List Table → NameNode → Result (ℕ × Table) LineFault
 table_at tables name = named_table tables name >>= λ number. ok_or (slice_get tables number) (line_fault UnknownName name.at) >>= λ table. Ok (number, table)
 
@@ -90,6 +94,7 @@ asked_cell tables name k = table_at tables name
     >>= λ t. asked_key t.1.key k
     >>= λ found. Ok (t.0, found)
 
+-- a record: a put, or a delete
 abbrev pub asked_change : List Table → RecordNode → Result Change LineFault
 asked_change tables (record_.Put name k ls) = asked_put tables name k ls
 asked_change tables (record_.Delete name k) = asked_cell tables name k >>= λ cell. Ok (Delete cell.0 cell.1)
@@ -114,6 +119,6 @@ abbrev pub HoldsRecords : LineNode → Type 0
 HoldsRecords (line.AdHoc rs) = HasOneTo MAX_RECORDS rs
 HoldsRecords _ = Unit {0}
 
--- the same of a line, or its fault where it is none
+-- what the tokens of a line ask, or their fault where they are no line
 abbrev pub request_of_tokens : CatalogueState → Result LineNode LineFault → Result (Option Request) LineFault
 request_of_tokens catalogue said = said >>= λ node. asked catalogue node

@@ -15,7 +15,7 @@ pub enum LineFaultKind {
     Token,
     /// The token can't follow here, or the line ends too early.
     Expected,
-    /// A name, a literal or the whole line is too long.
+    /// A name, a text or the whole line is too long, or an int is outside 64 bits.
     TooLong,
     /// No procedure or no table has this name.
     UnknownName,

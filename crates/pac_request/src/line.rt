@@ -72,7 +72,8 @@ pub fn read_line(
     read_line_with(alloc, catalogue, line, Vec::new(alloc))
 }
 
-/// What [`read_line`] says of a line. The arguments of a call take the room of a list, whose values are gone.
+/// What [`read_line`] says of a line. The arguments of a call take the room of a list, unless one of them begins with `-`; the
+/// list's values are gone in any case.
 ///
 /// # Errors
 ///

@@ -1,4 +1,4 @@
-// What people ask.
+// Requests, and the replies to them.
 use crate::fault::LineFault;
 use pac_base::{Rule, Ruled};
 use pac_ops::{Call, Reason, Records};

@@ -114,7 +114,7 @@ abbrev pub LineBroke : CatalogueState → List ℕ → EngineParts → EnginePar
 LineBroke catalogue line old new held held' histories histories' faulted stop =
     IsUntouched old new held held' histories histories' stop ⊎ ((asked : Request) × LineAsks catalogue line (asked ∷ []) × Broke catalogue asked old new held held' histories histories' faulted stop)
 
--- the requests are one stop; none of them is one
+-- where it stops, the requests are one stop; else none of them is a stop
 abbrev pub StopsWhere : Bool → List Request → Type 0
 StopsWhere true asked = asked ≡ request.Stop ∷ []
 StopsWhere false asked = NoStop asked

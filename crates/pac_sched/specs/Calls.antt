@@ -23,7 +23,8 @@ after_call s (Finishes id) = with_state s id Finished
 after_call s (GivesBack id) = with_state s id Waiting
 after_call s Reclaims = reclaimed s
 
--- the condition of a call: new pieces differ from all others, and their pairs are of them; a piece is out
+-- the condition of a call: new pieces differ from all others, and the later position of each pair is one of theirs; or the piece
+-- is out
 abbrev pub MayCall : Schedule → SchedCall → Type 0
 MayCall s (Opens pieces pairs) = AreDifferent (s.pieces ++ pieces) × ArePairsBelow (length pieces) pairs
 MayCall s Takes = Unit {0}

@@ -59,6 +59,6 @@ pub record KeepsSchedule (pieces : List PieceId) (states : List PieceState) (pai
   pub out_is : out ≡ count_by is_out states
   pub unfinished_is : unfinished ≡ count_by (λ state. not (is_finished state)) states
 
--- a piece that is out or finished waits for none
+-- no unfinished piece holds up one that is out or finished
 abbrev pub IsUnhindered : List PieceState → List (ℕ × ℕ) → Type 0
 IsUnhindered states pairs = (j : ℕ) → j < length states → waits_at states j ≡ false → passing (holds_up states j) pairs (length pairs) ≡ 0

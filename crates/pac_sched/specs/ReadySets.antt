@@ -9,7 +9,7 @@ IsSettledAt firsts k = slice_index firsts k ≡ min (slice_index firsts (2 * k))
 abbrev pub at_leaf : List Bool → ℕ → ℕ
 at_leaf flags i = cond (slice_index_or flags i false) i (length flags)
 
--- so has each node, and the raised flags are counted
+-- the leaves and the inner nodes have these numbers, and the raised flags are counted
 pub record IsFirstTree (flags : List Bool) (firsts : List ℕ) (raised : ℕ) : Type 0 where
   pub len : length firsts ≡ 2 * length flags
   pub leaves : (i : ℕ) → i < length flags → slice_index firsts (length flags + i) ≡ at_leaf flags i

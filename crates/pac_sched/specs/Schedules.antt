@@ -100,12 +100,12 @@ unfinished_pieces s = count_by (λ state. not (is_finished state)) s.states
 
 -- ---- changes
 
--- the state at a position
+-- the states with this one at a position, if there is one
 abbrev pub set_at : Option ℕ → PieceState → List PieceState → List PieceState
 set_at None state states = states
 set_at (Some i) state states = slice_set states i state
 
--- the piece is so far now
+-- the schedule with the piece in this state
 abbrev pub with_state : Schedule → PieceId → PieceState → Schedule
 with_state s id state = record { pieces = s.pieces; states = set_at (position_of s id) state s.states; pairs = s.pairs }
 

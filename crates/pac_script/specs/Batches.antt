@@ -50,6 +50,7 @@ other_runs [] = []
 other_runs (Add txn ∷ more) = other_runs more
 other_runs (Flush ∷ more) = first_run more ∷ other_runs more
 
+-- the transactions between flushes
 abbrev pub flush_runs : List ScriptStep → List (List Txn)
 flush_runs all = first_run all ∷ other_runs all
 

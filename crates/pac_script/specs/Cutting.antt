@@ -13,6 +13,7 @@ pub record Cut : Type 0 where
   pub first : ℕ
   pub held : List Txn
 
+-- the closed batches and the open one, if it holds anything
 abbrev pub closed_with : List Batch → ℕ → List Txn → List Batch
 closed_with closed first [] = closed
 closed_with closed first (txn ∷ more) = closed ++ (record { first = first; txns = txn ∷ more } ∷ [])
@@ -21,6 +22,7 @@ closed_with closed first (txn ∷ more) = closed ++ (record { first = first; txn
 abbrev pub flushed : Cut → Cut
 flushed cut = record { closed = closed_with cut.closed cut.first cut.held; first = cut.first + length cut.held; held = [] }
 
+-- a transaction joins the open batch
 abbrev pub with_last : Txn → Cut → Cut
 with_last txn cut = record cut { held = cut.held ++ (txn ∷ []) }
 
@@ -28,14 +30,17 @@ with_last txn cut = record cut { held = cut.held ++ (txn ∷ []) }
 abbrev pub added : Txn → Cut → Cut
 added txn cut = if fits (cut.held ++ (txn ∷ [])) then with_last txn cut else with_last txn (flushed cut)
 
+-- one step more
 abbrev pub cut_more : ScriptStep → Cut → Cut
 cut_more (Add txn) cut = added txn cut
 cut_more Flush cut = flushed cut
 
+-- all steps
 abbrev pub cut_all : List ScriptStep → Cut → Cut
 cut_all [] cut = cut
 cut_all (step ∷ more) cut = cut_all more (cut_more step cut)
 
+-- no batch yet
 abbrev pub nothing_cut : Cut
 nothing_cut = record { closed = []; first = 1; held = [] }
 

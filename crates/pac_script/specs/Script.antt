@@ -68,7 +68,7 @@ pub record HasParts (prefix after : List ℕ) (script : Script) : Type 0 where
   pub accepted : IsAccepted prefix script.catalogue
   pub batches : HasBatches script.catalogue (lines_after after) script.batches
 
--- the procedure with this name is the first at which operations are too many, and that many are
+-- the procedure with this name is the first at which operations are too many, and this is how many there are
 pub record IsExcess (procs : List Proc) (name : List ℕ) (count : ℕ) : Type 0 where
   pub number : ℕ
   pub first : IsFirstExcess procs number count

@@ -15,6 +15,7 @@ abbrev pub step_cut : Option ScriptStep → Cut → Cut
 step_cut None cut = cut
 step_cut (Some step) cut = cut_more step cut
 
+-- the same of a request, if there is one
 abbrev pub asked_cut : Option Request → Cut → Cut
 asked_cut None cut = cut
 asked_cut (Some asked) cut = step_cut (step_of asked) cut
@@ -24,6 +25,7 @@ abbrev pub IsSmallStep : Option ScriptStep → Type 0
 IsSmallStep None = Unit {0}
 IsSmallStep (Some step) = IsSmall step
 
+-- the same of a request, if there is one
 abbrev pub IsSmallAsked : Option Request → Type 0
 IsSmallAsked None = Unit {0}
 IsSmallAsked (Some asked) = IsSmallStep (step_of asked)

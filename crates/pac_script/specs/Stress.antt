@@ -15,9 +15,11 @@ mixed i = i * 2654435761 % 4294967296
 abbrev pub source : ℕ → ℕ
 source m = 1 + m % 97
 
+-- the number that the transaction's other values are made of
 abbrev pub quotient_by_97 : ℕ → ℕ
 quotient_by_97 m = m / 97
 
+-- a number as a value
 abbrev pub number : ℕ → Value
 number n = value.Int (pos n)
 

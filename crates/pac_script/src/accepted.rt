@@ -12,7 +12,7 @@ use pac_types::{Catalogue, read_catalogue};
 use std::alloc::Global;
 
 /// The catalogue of a text, where it has one of few operations: what stands before a script's mark, and what a store is made of.
-/// Linear in the text.
+/// Near linear in the text.
 ///
 /// # Errors
 ///

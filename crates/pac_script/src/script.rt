@@ -110,7 +110,7 @@ fn read_text(alloc: Global, text: &[u8]) -> Result<Script, ScriptError>
     }
 }
 
-/// The script that a text is. Linear in the text: a line is read, and forgotten but for its transaction.
+/// The script that a text is. Near linear in the text: a line is read, and forgotten but for its transaction.
 ///
 /// # Errors
 ///

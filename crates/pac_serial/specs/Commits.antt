@@ -10,7 +10,7 @@ use Rattle.pac_serial.specs.WriteSets.{Change}
 abbrev pub cells : List Change → List Cell
 cells changes = map (λ change. change.0) changes
 
--- each is of one of that many tables
+-- each change is in one of that many tables
 abbrev pub AreIn : ℕ → List Change → Type 0
 AreIn tables changes = All (λ change. change.0.0 < tables) changes
 
@@ -18,6 +18,7 @@ AreIn tables changes = All (λ change. change.0.0 < tables) changes
 abbrev pub IsThere : Tables → Change → Type 0
 IsThere tables change = change.1.puts ≡ true → IsSome (get tables change.0)
 
+-- the same for each change
 abbrev pub AreThere : Tables → List Change → Type 0
 AreThere tables changes = All (IsThere tables) changes
 
@@ -35,6 +36,7 @@ abbrev pub kept_row : Option RowValues → Option RowValues → Option RowValues
 kept_row None old = None
 kept_row (Some row) old = old
 
+-- a change with what it keeps in place of its row
 abbrev pub with_kept : Option RowValues → Pending → Pending
 with_kept old pending = record { row = kept_row pending.row old; puts = pending.puts }
 

@@ -18,12 +18,13 @@ use Rattle.pac_serial.specs.declared.execute.ExecError.TheVariants.{Abort as Abo
 use Rattle.pac_serial.specs.declared.serial.AllError.{AllError}
 use Rattle.pac_serial.specs.declared.serial.AllError.TheVariants.{Abort as AbortOf, NoMemory as NoMemoryForAll}
 
--- what a transaction is to give under a limit of rows: its tables; or its abort, or else the first of that many tables
--- that is over the limit
+-- the tables, or the first table over the limit, where one was found
 abbrev pub unless_over : Option (ℕ × ℕ) → Tables → Result Tables ExecError
 unless_over None tables = Ok tables
 unless_over (Some found) tables = Err (Full found.0)
 
+-- what a transaction is to give under a limit of rows, if there is one: its tables; or its abort, or else the first of that
+-- many tables that is over the limit
 abbrev pub limited : Option ℕ → ℕ → Result Tables AnAbort → Result Tables ExecError
 limited limit number (Err abort) = Err (AbortAt abort.0 abort.1)
 limited None number (Ok tables) = Ok tables

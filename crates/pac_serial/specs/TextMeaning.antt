@@ -38,15 +38,18 @@ abbrev pub run_turns : ℕ → List Code → List ℤ → ℕ → State → Resu
 run_turns x body [] n s = Ok s
 run_turns x body (i ∷ is) n s = run_codes body n (define x (Int i) s) >>= λ t. run_turns x body is (n + counts body) t
 
+-- a conditional: its test is an operation, whose value the variable gets, and then one of two blocks runs
 abbrev pub conditional : ℕ → Expr → List Code → List Code → Code
 conditional x e first second = record {
   count = 1 + (counts first + counts second);
   run = λ n s. at_operation n (or_abort (value e s.env)) >>= λ v. branch v (run_codes first (n + 1)) (run_codes second (n + 1 + counts first)) (define x v s);
 }
 
+-- a loop: its block once for each number of its range
 abbrev pub repeated : ℕ → ℤ → ℤ → List Code → Code
 repeated x from to body = record { count = turns from to * counts body; run = run_turns x body (turn_numbers from to) }
 
+-- a statement, by the codes of those in its blocks
 abbrev pub code_step : Stmt-F Code → Code
 code_step (Let x e) = one (kind.Let x e)
 code_step (Read x t k c d) = one (kind.Read x t k c d)
@@ -58,6 +61,7 @@ code_step (AbortIf e) = one (kind.AbortIf e)
 code_step (If x e first second) = conditional x e first second
 code_step (For x from to body) = repeated x from to body
 
+-- what a statement is
 abbrev pub code : Stmt → Code
 code = fold-Stmt Code code_step
 

@@ -25,10 +25,11 @@ as_changed tables changes = laid tables (entries changes)
 abbrev pub IsUnmade : ℕ → Cell → Pending → Type 0
 IsUnmade number cell pending = (cell.0 < number) × (pending.puts ≡ is_some pending.row)
 
--- each change is, and has
+-- each change is so
 abbrev pub AreUnmade : ℕ → Changes → Type 0
 AreUnmade number changes = (cell : Cell) (pending : Pending) → get changes cell ≡ Some pending → IsUnmade number cell pending
 
+-- the same of changes in a list
 abbrev pub AreAllUnmade : ℕ → List Change → Type 0
 AreAllUnmade number changes = (cell : Cell) (pending : Pending) → find cell_cmp cell changes ≡ Some pending → IsUnmade number cell pending
 
@@ -36,6 +37,7 @@ AreAllUnmade number changes = (cell : Cell) (pending : Pending) → find cell_cm
 abbrev pub gains : Tables → ℕ → Change → ℕ
 gains tables table change = cond (change.0.0 == table && (is_some change.1.row && not (is_some (get tables change.0)))) 1 0
 
+-- a row less in a table
 abbrev pub loses : Tables → ℕ → Change → ℕ
 loses tables table change = cond (change.0.0 == table && (not (is_some change.1.row) && is_some (get tables change.0))) 1 0
 
@@ -44,6 +46,7 @@ abbrev pub gained : Tables → ℕ → List Change → ℕ
 gained tables table [] = 0
 gained tables table (change ∷ changes) = gains tables table change + gained tables table changes
 
+-- how many rows changes take away from the table
 abbrev pub lost : Tables → ℕ → List Change → ℕ
 lost tables table [] = 0
 lost tables table (change ∷ changes) = loses tables table change + lost tables table changes

@@ -145,13 +145,13 @@ pub(crate) fn exec_records<R: Rows>(
 
 /// Executes a call of one of the catalogue's procedures, unless some table would then have more rows than the limit. It
 /// costs what its statements touch: no table is copied, and a cell is looked up among the call's own changes and in the
-/// tables. A limit costs a look at the count of each table.
+/// tables. A limit costs a look at the count of each table, and for one close to the limit a look-up of each cell that is changed.
 ///
 /// # Errors
 ///
+/// - `NoMemory` where an allocation was refused, whatever the call means; and else
 /// - `Abort` exactly where the call aborts by its meaning.
 /// - `Full` exactly where it ends with a table over the limit: the first of them.
-/// - `NoMemory` where an allocation was refused.
 ///
 /// Whatever refuses it, the tables are as they were.
 pub fn exec<R: Rows>(
@@ -177,8 +177,8 @@ pub fn exec<R: Rows>(
 ///
 /// # Errors
 ///
+/// - `NoMemory` where an allocation was refused; and else
 /// - `Full` exactly where the changes leave a table over the limit: the first of them.
-/// - `NoMemory` where an allocation was refused.
 ///
 /// `Abort` never comes. Whatever refuses the records, the tables are as they were.
 pub fn exec_adhoc<R: Rows>(

@@ -21,10 +21,10 @@
 //! ```
 //!
 //! A transaction's changes form a write set until it ends; a read looks there first. Then the limit is tested, by
-//! counts that the tables keep, and the write set is applied, all or none. So whatever refuses a transaction, the
-//! tables are unchanged. It is refused for an abort exactly where it means one, with its operation and reason; else as
-//! `Full` exactly where some table would be over the limit, with the first such table; else only when out of memory
-//! (`does`).
+//! counts that the tables keep and, for a table close to the limit, by its cells that are changed; and the write set is
+//! applied, all or none. So whatever refuses a transaction, the tables are unchanged. Unless memory runs out, it is
+//! refused for an abort exactly where it means one, with its operation and reason; else as `Full` exactly where some
+//! table would be over the limit, with the first such table (`does`).
 //!
 //! A loop's block is executed where it stands, over values by the numbers of the text. `specs/TextMeaning.antt` says what
 //! that does, and `proofs/SameMeaning.antt` shows that it gives the tables and the aborts of the serial meaning.

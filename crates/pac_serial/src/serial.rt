@@ -42,8 +42,8 @@ impl From<NoMemory> for AllError {
 ///
 /// # Errors
 ///
+/// - `NoMemory` where an allocation was refused; and else
 /// - `Abort` exactly where serial execution stops, with the transaction that aborts.
-/// - `NoMemory` where an allocation was refused.
 ///
 /// The transactions before the one that is refused stay executed, and it changes nothing.
 pub fn exec_all<R: Rows>(

@@ -87,7 +87,7 @@ described rules place start (group ∷ more) =
     record { requests = group; txns = txns; replies = replies rules start group; place = place }
     ∷ described rules (place_after_group place txns) (ends rules start group) more
 
--- the groups that closings cut off requests, up to the first stop; what the end of the requests alone would cut off is none
+-- the groups that closings cut off requests, up to the first stop; requests after the last closing are no group
 abbrev pub groups : Rules → ℕ → SessionState → List Request → List Group
 groups rules place start requests = described rules place start (cut rules start (up_to_stop requests)).closed
 

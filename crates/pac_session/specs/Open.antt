@@ -76,7 +76,8 @@ pub record IsInGroup (start : SessionState) (group : List Request) (now : Open) 
 -- ---- what every session keeps
 
 -- The catalogue is within the limits on operations; the rows fit it and stand within the limit; the transactions of the group fit the catalogue and a body, whose
--- length is kept; each has a reply, and there are no more replies than a group may hold.
+-- length is kept; there are no fewer replies than transactions and no more than a group may hold, at most 1,024; and the
+-- number before the group has a bound.
 pub record IsWellFormed (now : Open) (count len : ℕ) : Type 0 where
   pub operations : HasFewOperations now.catalogue.procs
   pub rows : FitsCatalogue now.catalogue count now.tables

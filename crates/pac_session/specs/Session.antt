@@ -37,10 +37,12 @@ abbrev pub committed_by : Txn → Result Tables ExecError → List Txn
 committed_by txn (Ok tables) = txn ∷ []
 committed_by txn (Err refusal) = []
 
+-- the state after a transaction with this outcome
 abbrev pub state_by : SessionState → Result Tables ExecError → SessionState
 state_by state (Ok tables) = record { tables = tables; number = state.number + 1 }
 state_by state (Err refusal) = state
 
+-- the reply to a transaction with this outcome; none where there was no memory
 abbrev pub reply_by : SessionState → Result Tables ExecError → List Reply
 reply_by state (Ok tables) = Committed (state.number + 1) ∷ []
 reply_by state (Err (Abort op reason)) = Aborted op reason ∷ []
@@ -64,6 +66,7 @@ abbrev pub commits_asked : Rules → SessionState → Option Txn → List Txn
 commits_asked rules state None = []
 commits_asked rules state (Some txn) = committed_by txn (txn_outcome rules state.tables txn)
 
+-- the same of a request
 abbrev pub commits : Rules → SessionState → Request → List Txn
 commits rules state asked = commits_asked rules state (txn_of asked)
 
@@ -72,6 +75,7 @@ abbrev pub after_asked : Rules → SessionState → Option Txn → SessionState
 after_asked rules state None = state
 after_asked rules state (Some txn) = state_by state (txn_outcome rules state.tables txn)
 
+-- the same of a request
 abbrev pub state_after : Rules → SessionState → Request → SessionState
 state_after rules state asked = after_asked rules state (txn_of asked)
 
@@ -121,6 +125,7 @@ pub record Transcript : Type 0 where
   pub committed : List Txn
   pub state : SessionState
 
+-- what requests come to, from a state on
 abbrev pub session : Rules → SessionState → List Request → Transcript
 session rules start requests = record {
   replies = replies rules start (up_to_stop requests);

@@ -16,7 +16,7 @@ Kept P = SetId × Option P
 abbrev pub WaitsFor : List (ℕ × ℕ) → SetId → SetId → Type 0
 WaitsFor edges set other = ((other.batch ≡ set.batch) × Contains edges (other.block, set.block)) ⊎ ((other.block ≡ set.block) × (other.batch < set.batch))
 
--- what is had where there is something, and that is had
+-- an option in an option, as one option
 abbrev pub flattened : {P : Type 0} → Option (Option P) → Option P
 flattened None = None
 flattened (Some kept) = kept
@@ -25,7 +25,7 @@ flattened (Some kept) = kept
 abbrev pub kept_of : {P : Type 0} → SetId → List (Kept P) → Option P
 kept_of set sets = flattened (get (from_sorted {R = set_cmp} sets) set)
 
--- each set that this one waits for is finished
+-- each set that this one waits for is finished, or isn't there
 abbrev pub WaitsForNothing : {P : Type 0} → List (ℕ × ℕ) → List (Kept P) → SetId → Type 0
 WaitsForNothing edges sets set = (other : SetId) → WaitsFor edges set other → kept_of other sets ≡ None
 
@@ -104,7 +104,7 @@ is_earlier at (Some other) = nat_lt at other
 abbrev pub IsOpenBelow : {P : Type 0} → ℕ → List (ℕ × ℕ) → List (Kept P) → ℕ → Type 0
 IsOpenBelow n edges sets j = (it : IsOpenSet edges sets j) × (it.set.block < n)
 
--- the first of those from an offset on, or none where there is none
+-- an open set from an offset on, with none of those before it; or None where there is none of those
 abbrev pub IsFirstBelow : {P : Type 0} → ℕ → List (ℕ × ℕ) → List (Kept P) → ℕ → Option ℕ → Type 0
 IsFirstBelow n edges sets from None = (j : ℕ) → from ≤ j → IsOpenBelow n edges sets j → ⊥
 IsFirstBelow n edges sets from (Some at) = (from ≤ at) × IsOpenSet edges sets at × ((j : ℕ) → from ≤ j → j < at → IsOpenBelow n edges sets j → ⊥)

@@ -38,7 +38,7 @@ fn together(tallies: &[u64], drained: u64) -> u64
 }
 
 /// What batches that run on from the first transaction leave, from no rows on, by `workers` workers. One passes the gate
-/// before each piece, several before each piece that is handed out to one of them.
+/// before each piece that it runs, several before each piece that is handed out to one of them.
 pub(crate) fn execute_all<H: Threads + Wait + Sync, G: Gate + Sync>(
     rt: &H,
     alloc: Global,

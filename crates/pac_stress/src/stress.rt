@@ -13,7 +13,7 @@ use std::sync::Wait;
 use std::thread::Threads;
 
 /// Executes `count` transactions of the stress test from no rows on, by `workers` workers, and returns the summary. One worker
-/// passes the gate before each piece, several before each piece that is handed out to one of them.
+/// passes the gate before each piece that it runs, several before each piece that is handed out to one of them.
 ///
 /// # Errors
 ///

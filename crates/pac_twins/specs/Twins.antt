@@ -20,6 +20,7 @@ module _ {T : Type 0} where
   abbrev pub first_shown : List T → List T
   first_shown v = take 1 v
 
+  -- what is shown after the first
   abbrev pub rest_shown : List T → List T
   rest_shown v = drop 1 v
 
@@ -45,11 +46,11 @@ module _ {T : Type 0} where
   AreSame (x ∷ []) = Unit {0}
   AreSame (x ∷ y ∷ ys) = x ≡ y
 
-  -- the value that was told is shown twice
+  -- the value that the step says, if any, is shown twice
   abbrev pub IsToldTwice : Option T → List T → Type 0
   IsToldTwice none v = Unit {0}
   IsToldTwice (some x) v = v ≡ x ∷ x ∷ []
 
-  -- what was shown was the same, and the value that was told is shown twice
+  -- where two values were shown they were the same, and the value that the step says is shown twice
   abbrev pub AreTold : Step T → Me T (List T) → ℕ → Me T (List T) → Type 0
   AreTold st before n after = AreSame before.0 × IsToldTwice st.said after.0 × (after.1 ≡ before.1)

@@ -46,7 +46,7 @@ module _ {M : Type 0} where
     pub params_are : params (with_batch all batch) ≡ params all
     pub tables_are : tables (with_batch all batch) ≡ tables all
 
-  -- a feed gave some batches, and a twin tells the job with these, which is closed
+  -- a feed gave some batches, and a twin tells the job with these, and whether it is closed
   pub record IsFed {F : Type 0} (gives : F → List Batch → F → Type 0) (job : M → M) (is_closed : M → Bool) (with_batch : M → Batch → M) (id : TableId) (all : M) (closed : Bool) (old new : F) (twin : Seat M (List M)) : Type 0 where
     pub batches : List Batch
     pub given : gives old batches new
