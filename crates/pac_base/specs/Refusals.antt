@@ -1,4 +1,4 @@
--- What a call answers that a fault of its input, or running out of memory, can stop.
+-- What contracts say of a call that a fault of its input, or running out of memory, can stop.
 use Rattle.std.specs.Prelude.{◌≡◌, Result, Ok, Err}
 use Rattle.pac_base.specs.declared.refusal.Refusal.{Refusal}
 use Rattle.pac_base.specs.declared.refusal.Refusal.TheVariants.{Fault, NoMemory}

@@ -7,8 +7,8 @@ use std::alloc::{AllocError, AllocFailed};
 use std::fmt::Display;
 use thiserror::Error;
 
-/// Why a call is refused that a fault of its input, or running out of memory, can stop. Each layer's error is this of its own
-/// fault, so its `From`s stand here once. What a call answers with it is said by the words of `specs/Refusals.antt`.
+/// Why a call is refused: a fault of its input, or running out of memory. Each layer's error is this type over the layer's own
+/// fault, so its `From`s stand here once. `specs/Refusals.antt` has the predicates that contracts use for such results.
 #[derive(Clone, Copy, Debug, PartialEq, Eq, Error)]
 #[error_bound(F: Display)]
 pub enum Refusal<F> {

@@ -43,6 +43,7 @@ impl<R: Rule> Ruled<R> {
         }
     }
 
+    /// The items, which keep the rule.
     pub fn items(&self) -> &[R::Item]
         ensures value { result.now ≡ self.now }
         ensures rule { R.holds self.now }
@@ -50,6 +51,7 @@ impl<R: Rule> Ruled<R> {
         &self.items
     }
 
+    /// The items as a vector. Takes no memory.
     pub fn into_items(self) -> Vec<R::Item>
         ensures value { result.items ≡ self }
         ensures rule { R.holds self }

@@ -49,6 +49,7 @@ impl<T: MadeWith<Global> + Drop, const N: usize> ShortList<T, N> {
 }
 
 impl<T, const N: usize> ShortList<T, N> {
+    /// The items, in order.
     pub fn as_slice(&self) -> &[T]
         ensures { result.now ≡ self.now }
     {

@@ -6,8 +6,8 @@ pub fn one_list()
     ensures { OneList }
 {}
 
-/// Next pairs conflict; and what holds of each access that a next pair leads from, once it holds of the one that the pair leads to,
-/// holds so of each access that conflicts with a later one: waiting for next pairs is waiting for all conflicts.
+/// Next pairs conflict. And a set of accesses that has, with the later access of a next pair, always the earlier one, has so with
+/// any two accesses that conflict: waiting for next pairs is waiting for all conflicts.
 pub fn pairs_suffice()
     ensures { PairsSuffice }
 {}

@@ -10,10 +10,10 @@ use pac_base::NoMemory;
 use pac_plan::{Access, Preds};
 use std::alloc::Global;
 
-/// The pairs of accesses that are next to each other, each once, ascending, by their positions: two of which one has to wait for the
-/// other, and none between that the later waits for and that waits for the earlier. Accesses that conflict are joined by a chain of
-/// them, so that waiting for these is waiting for all. There are at most twice as many as touches and accesses together, and it
-/// takes the time of sorting the touches, and then the pairs.
+/// The pairs of accesses that are next to each other, each once, ascending, by their positions: two that stand in one queue, of a
+/// row or of the block, one of which modifies there, with no modification in that queue between them. Accesses that conflict are
+/// joined by a chain of such pairs, so that waiting for these is waiting for all. There are at most twice as many as touches and
+/// accesses together, and it takes the time of sorting the touches, and then the pairs.
 ///
 /// # Errors
 ///

@@ -18,7 +18,7 @@ pub struct PieceSet {
 }
 
 /// The pieces of a batch, block by block, the blocks ascending, without those that have none. It takes time that grows with
-/// the number of blocks times that of transactions.
+/// the number of blocks times that of transactions and ad hoc records.
 ///
 /// # Errors
 ///

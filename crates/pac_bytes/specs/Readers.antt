@@ -1,10 +1,10 @@
--- What a function answers that reads bytes from an offset on: what it found, and the offset after it.
+-- What a function returns that reads bytes from an offset on: what it found, and the offset after it.
 use Rattle.std.specs.Prelude.{◌≡◌, ◌+◌, ℕ, List, ◌++◌, length, drop, Result, Ok, Err, IfOk}
 use Rattle.pac_base.specs.declared.refusal.Refusal.{Refusal}
 use Rattle.pac_base.specs.Refusals.{Reports, Only}
 use Rattle.pac_bytes.specs.Reading.{Rest, from}
 
--- it answered what reading gives, or the fault
+-- it returned what reading gives, or the fault
 abbrev pub Answers : {A F : Type 0} → List ℕ → Result (A × ℕ) F → Result (A × Rest) F → Type 0
 Answers bytes (Ok found) read = read ≡ Ok (found.0, from bytes found.1)
 Answers bytes (Err fault) read = read ≡ Err fault

@@ -37,8 +37,7 @@ impl From<Short> for ValueFault {
     }
 }
 
-/// Why no value of the type that is wanted stands at an offset: the first fault from the left, with its offset, an offset
-/// from 0.
+/// Why no value of the type that is wanted stands at an offset: the first fault from the left, with its offset, from 0.
 #[derive(Clone, Copy, Debug, PartialEq, Eq, Error)]
 pub enum TypedFault {
     /// Too few bytes are left for the field at this offset. A text's length and its bytes are one field.

@@ -100,7 +100,7 @@ pub fn put_u8(out: &mut Vec<u8>, number: u8) -> Result<(), NoMemory>
 ///
 /// # Errors
 ///
-/// `NoMemory` alone, as of [`put_u8`].
+/// `NoMemory` alone, as for [`put_u8`].
 pub fn put_u16(out: &mut Vec<u8>, number: u16) -> Result<(), NoMemory>
     ensures { OnOk result (Grew out.old.items out.new.items (to_le_bytes w16 number)) }
 {
@@ -111,7 +111,7 @@ pub fn put_u16(out: &mut Vec<u8>, number: u16) -> Result<(), NoMemory>
 ///
 /// # Errors
 ///
-/// `NoMemory` alone, as of [`put_u8`].
+/// `NoMemory` alone, as for [`put_u8`].
 pub fn put_u32(out: &mut Vec<u8>, number: u32) -> Result<(), NoMemory>
     ensures { OnOk result (Grew out.old.items out.new.items (to_le_bytes w32 number)) }
 {
@@ -122,7 +122,7 @@ pub fn put_u32(out: &mut Vec<u8>, number: u32) -> Result<(), NoMemory>
 ///
 /// # Errors
 ///
-/// `NoMemory` alone, as of [`put_u8`].
+/// `NoMemory` alone, as for [`put_u8`].
 pub fn put_u64(out: &mut Vec<u8>, number: u64) -> Result<(), NoMemory>
     ensures { OnOk result (Grew out.old.items out.new.items (to_le_bytes w64 number)) }
 {

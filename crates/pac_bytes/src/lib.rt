@@ -23,8 +23,9 @@
 //!
 //! Each format has two definitions in `specs/`. Its *spelling* is a function from data to bytes: the meaning, and what
 //! is appended. Its *reading* is a function on the bytes from an offset: the data and the rest, or the first fault.
-//! Each reader has three clauses: it returns what reading gives (`exact`); what it returns is spelled at the offset
-//! (`found`); what is spelled at the offset is what it returns, whatever follows (`again`). The last two hold for every
+//! Each reader but [`type_at`] has these clauses: it returns what reading gives (`exact`); what it returns is spelled at the offset
+//! (`found`); what is spelled at the offset is what it returns, whatever follows (`again`); the offset that it returns is no
+//! further than the end (`inside`). `found` and `again` hold for every
 //! codec, and codecs are closed under concatenation, choice by a test or a type, repetition, and bounded length
 //! (`proofs/Codec.antt`, `Lists.antt`, `Filling.antt`).
 #![tactic(auto)]

@@ -26,9 +26,9 @@ fn read_typed(bytes: &[u8], at: usize, ty: Ty) -> Result<(Value, usize), TypedFa
 ///
 /// The first fault from the left:
 ///
-/// - [`TypedFault::Short`] and [`TypedFault::Tag`] as of [`value_at`].
+/// - [`TypedFault::Short`] and [`TypedFault::Tag`] as for [`value_at`].
 /// - [`TypedFault::Wrong`] at the tag of a value of another type, whatever is left after it, and where [`value_at`]
-///   answers `Bad`.
+///   reports `Bad`.
 pub fn typed_at(bytes: &[u8], at: usize, ty: Ty) -> Result<(Value, usize), TypedFault>
     // It is what reading gives, or the first fault.
     ensures exact { Answers bytes.now result (next_typed ty (from bytes.now at)) }

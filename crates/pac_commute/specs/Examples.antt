@@ -117,7 +117,7 @@ pub record StatsWork : Type 0 where
 abbrev pub bank_job : Job
 bank_job = record { parts = bank; first = 1; tables = empty }
 
--- the machine runs so: it loads the three batches, gives out the pieces in this order, and keeps those that are finished
+-- some steps of the machine lead to where the three batches are loaded, these pieces are out, and these are finished
 abbrev pub BankRun : Type 0
 BankRun = (m : Machine) × JobSteps bank_job (opening_machine bank_job) m × (m.batches ≡ bank_batches)
     × (m.out ≡ at 1 3 ∷ at 1 5 ∷ []) × (m.finished ≡ at 1 2 ∷ at 3 1 ∷ at 3 0 ∷ at 2 0 ∷ [])

@@ -5,7 +5,8 @@ use Rattle.pac_ops.specs.declared.piece.PieceId.{PieceId}
 use Rattle.pac_base.specs.Members.{Mem}
 use Rattle.pac_plan.specs.Pieces.{Present, World, apply, access, conflicts, precedes, needs, HasInputs}
 
--- two pieces of which neither touches what the other writes
+-- two pieces of different transactions and blocks, or of one transaction with no edge between their blocks, or of one block,
+-- with accesses that don't conflict and their inputs there
 abbrev pub Independent : World → (ℕ → Values) → Present → PieceId → PieceId → Type 0
 Independent w env s p q =
     ((p.txn ≡ q.txn → ⊥) × (p.block ≡ q.block → ⊥))

@@ -69,8 +69,9 @@ IsReadyAt job m p = IsReadyPiece (world_at job m) (ends_at job m) (pieces_at job
 
 -- ---- steps
 
--- a batch is loaded whose numbers run on; a ready piece whose access is of keys is given out; a ready piece is applied where
--- it is taken; a piece that is out is finished, or given back
+-- a batch is loaded whose numbers run on and whose transactions fit the plan; a ready piece whose access is of keys is handed
+-- out; a ready piece is applied at once; a piece that is out is finished; a piece is given back, which changes nothing if it
+-- isn't out
 pub data Step (job : Job) : Machine → Machine → Type 0 where
   Loaded : (m : Machine) (batch : Batch) → batch.first ≡ next_in_job job m.batches → TxnsFitPlan job.parts batch.txns
       → Step job m (record m { batches = and_batch m.batches batch; now = loaded (next_in_job job m.batches) (begin job (and_batch m.batches batch)).envs m.now })
@@ -168,7 +169,7 @@ FinishIsApply = (job : Job) → IsPlan job.parts → (m n : Machine) (p : PieceI
     → IsWork (world_at job m) (ends_at job m) p m.now copies → IsOutcome (world_at job m) (ends_at job m) p copies rows outs
     → (after : Present) → IsPut (world_at job n) p copies rows outs n.now after → after ≡ apply (world_at job n) p n.now
 
--- a piece that is out, or ready, has its inputs
+-- a piece whose predecessors are finished, so one that is out or ready, has its inputs
 abbrev pub OutsHaveInputs : Type 0
 OutsHaveInputs = (job : Job) → IsPlan job.parts → (m : Machine) → Invariant job m
     → (p : PieceId) → PredsFinished job m p → HasInputs (world_at job m) (ends_at job m) p m.now

@@ -41,11 +41,11 @@ planned parts first batches = world parts first (batch_of batches) (txns_of batc
 abbrev pub numbers_of : ℕ → List Batch → List ℕ
 numbers_of first batches = numbers first (txns_of batches)
 
--- each ad hoc record is of a table of the plan
+-- each ad hoc record fits a table of the plan
 abbrev pub AllInTables : PlanParts → List Txn → Type 0
 AllInTables parts txns = (i : ℕ) (txn : Txn) → slice_get txns i ≡ Some txn → RecordsInTables parts txn
 
--- a law of the pieces of a plan and of batches whose numbers run on
+-- a law of the pieces of a plan and of batches whose numbers run on and whose ad hoc records fit the plan's tables
 abbrev pub OfPlan : (World → List ℕ → List ℕ → Type 0) → Type 0
 OfPlan Law = (parts : PlanParts) → IsPlan parts → (first : ℕ) (batches : List Batch) → NumbersRunOn first batches → AllInTables parts (txns_of batches)
     → Law (planned parts first batches) (numbers_of first batches) (blocks_in parts)
@@ -60,7 +60,8 @@ OfWorlds Law = (parts : PlanParts) → IsPlan parts → (first : ℕ) (batches :
 abbrev pub BlocksInOrder : World → List ℕ → List ℕ → Type 0
 BlocksInOrder w ts bs = (t : ℕ) → Mem t ts → (s : Present) → partial w every (blocks_of w t bs) s ≡ run_ops t (w.vars t) (w.code t) s
 
--- what one transaction leaves of the state before it: its tables, its own variables, nothing of the others', and the least note
+-- what one transaction makes of the state before it: its tables, its own variables, those of the others unchanged, and the
+-- least note
 pub record IsTxnEnd (parts : PlanParts) (t : ℕ) (txn : Txn) (before after : Present) : Type 0 where
   pub tables : after.tables ≡ (txn_state parts.programs txn before.tables).tables
   pub own : after.envs t ≡ (txn_state parts.programs txn before.tables).env

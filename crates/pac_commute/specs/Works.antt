@@ -13,7 +13,7 @@ use Rattle.pac_plan.specs.declared.access.Touch.{Touch}
 use Rattle.pac_plan.specs.declared.access.Access.TheVariants.{Keys}
 use Rattle.pac_plan.specs.Pieces.{named_cell, Present, World, ops, apply, partial, pieces, access, covers, HasInputs, Location, RowOf, at_location, touches, writes}
 
--- the rows of the access, the inputs, and no value of a variable that the piece defines
+-- the work has the state's rows of the access, its inputs, and its values of the variables that the piece defines
 pub record IsWork (w : World) (env : ℕ → Values) (p : PieceId) (s : Present) (work : State) : Type 0 where
   pub rows : (a : Cell) → covers (access w env p) a ≡ true → get work.tables a ≡ get s.tables a
   pub inputs : (x : ℕ) → used_in (ops w p) x ≡ true → defined_in (ops w p) x ≡ false → get work.env x ≡ get (s.envs p.txn) x
@@ -63,7 +63,7 @@ abbrev pub Fresh : World → List ℕ → List ℕ → Type 0
 Fresh w ts bs = (s : Present) (F : PieceId → Bool) (p : PieceId) → F p ≡ false
     → (x : ℕ) → defined_in (ops w p) x ≡ true → get ((partial w F (pieces w ts bs) s).envs p.txn) x ≡ get (s.envs p.txn) x
 
--- copies of the rows at the keys of an access, and of variables
+-- copies of the rows at the keys of an access
 abbrev pub copied_rows : List Touch → Tables → Tables
 copied_rows [] tables = empty
 copied_rows (e ∷ es) tables = with_row (copied_rows es tables) (named_cell e) (get tables (named_cell e))

@@ -19,9 +19,9 @@
 //!    the first note where serial execution stops.
 //!
 //! Each law is a function that does nothing, whose clauses are definitions of `specs/`. They hold for every plan and for
-//! every list of batches whose numbers run on; [`batches_run_on`] says what that gives. The words of pieces stand in
-//! `pac_plan`, those of operations in `pac_ops`. [`worked_examples`] computes them for a bank and for a procedure that
-//! hops from row to row.
+//! every list of batches whose numbers run on and whose transactions fit the plan; [`batches_run_on`] says what running on
+//! gives. The terms for pieces are defined in `pac_plan`, those for operations in `pac_ops`. [`worked_examples`] computes
+//! what the definitions give for a bank and four small procedures.
 #![tactic(auto)]
 
 ghost use Rattle.pac_commute.specs.Examples.{AccessConflicts, AddEnd, BankAccesses, BankEnd, BankPieces, BankRun, BankTakes, CapAccess, DepositTakes, HopEnd, HopTakes, StatsWork};
@@ -49,7 +49,8 @@ pub fn work()
     ensures fresh { OfPlan Fresh }
 {}
 
-/// Two pieces that touch nothing that the other writes change places.
+/// Two pieces change places where both their transactions and their blocks differ, where they are of one transaction with no
+/// edge between their blocks, or where they are of one block, their accesses don't conflict and their inputs are there.
 pub fn two_pieces()
     ensures { OfWorlds TwoPieces }
 {}
@@ -117,8 +118,8 @@ pub fn end()
 {}
 
 /// What the definitions give. Which accesses conflict. For a bank whose deposit, record and transfer come in three batches:
-/// the pieces, the order in which they are taken, the rows that they touch, the rows at the end, the machine's steps in that
-/// order, and the work of one piece.
+/// the pieces, the order in which they are taken, the rows that they touch, the rows at the end, a state that the machine can
+/// reach, and the work of one piece.
 /// For one deposit alone, the order. For a procedure whose written key comes from the row that it reads: its pieces touch
 /// their block whole and come one at a time; and the rows at the end. For one whose condition is of its own block: it may
 /// write whatever the condition will be. For two that abort: the rows with defaults, the notes, and the first of them.

@@ -46,7 +46,8 @@ impl From<TooManyOps> for FlatError {
 ///
 /// # Errors
 ///
-/// `Fault` exactly where a procedure has more than 256 operations, or all together have more than 4,096.
+/// `Fault` exactly where a procedure has more than 256 operations, or all together have more than 4,096: they are counted
+/// first, without memory. `NoMemory` where a program finds no room.
 pub fn flatten(alloc: Global, cat: &Catalogue) -> Result<Vec<Program>, FlatError>
     ensures programs { IfOk result (λ programs. programs.items ≡ map program_of cat.now.procs) }
 

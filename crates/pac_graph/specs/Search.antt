@@ -9,13 +9,13 @@ use Rattle.pac_graph.specs.Graph.{Reach}
 abbrev pub mark_of : List Mark → ℕ → Mark
 mark_of marks u = slice_index_or marks u Fresh
 
--- how often a mark changes yet
+-- how often a mark can still change
 abbrev pub changes_of : Mark → ℕ
 changes_of Fresh = 2
 changes_of (Open offset) = 1
 changes_of (Done class) = 0
 
--- how often marks change yet
+-- how often the marks together can still change
 unfoldable pub changes_left : List Mark → ℕ
 changes_left marks = sum_by changes_of marks
 

@@ -46,6 +46,6 @@ pub record AreInterfaces (parts : PlanParts) (interfaces : List (List Interface)
 abbrev pub InputsAreOutputs : Type 0
 InputsAreOutputs = (parts : PlanParts) (proc block other x : ℕ) → block < parts.blocks → is_input (proc_ops parts proc block) x ≡ true → defined_in (proc_ops parts proc other) x ≡ true → is_output parts proc other x ≡ true
 
--- the variables that pass a test are among these too now
+-- these are the old variables and those that pass the test, and no others
 abbrev pub AddsVars : (ℕ → Bool) → List ℕ → List ℕ → Type 0
 AddsVars test old new = (x : ℕ) → Contains new x ↔ (Contains old x ⊎ (test x ≡ true))

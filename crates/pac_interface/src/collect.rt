@@ -103,7 +103,7 @@ fn outputs_of(alloc: Global, code: &PlanCode, proc: u16, block: u16) -> Result<V
     Ok(vars)
 }
 
-// AddsVars the variable that an operation defines, if one in another block uses it.
+// Adds the variable that an operation defines, if one in another block uses it.
 fn add_output(
     code: &PlanCode,
     proc: u16,

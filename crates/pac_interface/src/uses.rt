@@ -8,7 +8,7 @@ use pac_base::NoMemory;
 use pac_ops::{FlatOp, OpKind};
 use pac_value::Expr;
 
-// AddsVars the variables that an expression uses.
+// Adds the variables that an expression uses.
 fn add_expr(expr: &Expr, vars: &mut Vec<u16>) -> Result<(), NoMemory>
     ensures { OnOk result (AddsVars (λ x. expr_uses x expr.now) vars.old.items vars.new.items) }
 {
@@ -26,7 +26,7 @@ fn add_expr(expr: &Expr, vars: &mut Vec<u16>) -> Result<(), NoMemory>
     }
 }
 
-// AddsVars those that one of several uses.
+// Adds those that one of several uses.
 fn add_exprs(exprs: &[Expr], vars: &mut Vec<u16>) -> Result<(), NoMemory>
     ensures { OnOk result (AddsVars (λ x. exprs_use x exprs.now) vars.old.items vars.new.items) }
 {
@@ -36,7 +36,7 @@ fn add_exprs(exprs: &[Expr], vars: &mut Vec<u16>) -> Result<(), NoMemory>
     Ok(())
 }
 
-// AddsVars those of conditions.
+// Adds those of conditions.
 fn add_conds(conds: &[(u16, bool)], vars: &mut Vec<u16>) -> Result<(), NoMemory>
     ensures { OnOk result (AddsVars (λ x. conds_use x conds.now) vars.old.items vars.new.items) }
 {
@@ -46,7 +46,7 @@ fn add_conds(conds: &[(u16, bool)], vars: &mut Vec<u16>) -> Result<(), NoMemory>
     Ok(())
 }
 
-// AddsVars those of the key, the values and the test of an operation.
+// Adds those of the key, the values and the test of an operation.
 fn add_kind(kind: &OpKind, vars: &mut Vec<u16>) -> Result<(), NoMemory>
     ensures { OnOk result (AddsVars (λ x. kind_uses x kind.now) vars.old.items vars.new.items) }
 {
@@ -68,7 +68,7 @@ fn add_kind(kind: &OpKind, vars: &mut Vec<u16>) -> Result<(), NoMemory>
     }
 }
 
-/// AddsVars the variables that operations use.
+/// Adds the variables that operations use.
 pub(crate) fn add_ops(ops: &[(u16, FlatOp)], vars: &mut Vec<u16>) -> Result<(), NoMemory>
     ensures { OnOk result (AddsVars (used_in ops.now) vars.old.items vars.new.items) }
 {

@@ -52,6 +52,6 @@ touch_of env probe = option_map (λ key. record { table = probe.table; key = key
 abbrev pub probed : Values → List Probe → Access
 probed env probes = if list_any (is_open env) probes then Whole else Keys (filter_map (touch_of env) probes)
 
--- where an operation may run whose key is bounded, its key has a type
+-- where an operation may run whose key is bounded, its key has a type, and that is no bool
 abbrev pub CanProbe : Values → Probe → Type 0
 CanProbe env probe = probe.is_bounded ≡ true → all_hold env probe.conds ≡ true → IsStoredTyped env probe.key

@@ -20,7 +20,7 @@ abbrev pub is_true : Value → Bool
 is_true (Truth b) = b
 is_true v = false
 
--- where true is asked a variable's value is true, where false is asked it is not; without a value it is neither
+-- the condition holds: where it asks for true the value is true, where it asks for false it isn't; without a value it fails
 abbrev pub is_as_asked : Bool → Option Value → Bool
 is_as_asked asked None = false
 is_as_asked true (Some v) = is_true v

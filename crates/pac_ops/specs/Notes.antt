@@ -24,7 +24,7 @@ reason_number Asked = 4
 abbrev pub note_cmp : Note → Note → Ordering
 note_cmp a b = ordering_then (nat_cmp a.txn b.txn) (ordering_then (nat_cmp a.op b.op) (nat_cmp (reason_number a.reason) (reason_number b.reason)))
 
--- it is the order that comparisons of reasons and of notes answer
+-- comparisons of reasons return the order of their numbers
 pub reason_order : (a b : Reason) → (reason.ghosts).cmp a b ≡ nat_cmp (reason_number a) (reason_number b)
 reason_order Missing Missing = refl
 reason_order Missing Overflow = refl

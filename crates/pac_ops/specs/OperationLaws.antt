@@ -19,7 +19,7 @@ use Rattle.pac_ops.specs.declared.note.Note.{Note}
 abbrev pub AlikeOnVars : (ℕ → Bool) → Values → Values → Type 0
 AlikeOnVars used env env' = (x : ℕ) → used x ≡ true → get env x ≡ get env' x
 
--- a value depends on the variables that the expression uses
+-- a value depends on nothing but the variables that the expression uses
 abbrev pub ValueByUses : Type 0
 ValueByUses = (e : Expr) (env env' : Values) → AlikeOnVars (λ x. expr_uses x e) env env' → value e env ≡ value e env'
 
@@ -29,7 +29,7 @@ HasForm = (vars : List Ty) (op : FlatOp) (s : State)
     → (flat_done vars op s ≡ with_flat (flat_cell op s.env) (flat_effect vars op s.env (row_at s.tables (flat_cell op s.env))) s)
     × (flat_reason op s ≡ (flat_effect vars op s.env (row_at s.tables (flat_cell op s.env))).reason)
 
--- the cell depends on the variables that it uses, and the effect on them and on the row at the cell
+-- the cell depends on the variables that the operation uses alone, and the effect on these and the row at the cell alone
 abbrev pub EffectByUses : Type 0
 EffectByUses = (vars : List Ty) (op : FlatOp) (env env' : Values) (row : Option RowValues) → AlikeOnVars (λ x. op_uses x op) env env'
     → (flat_cell op env ≡ flat_cell op env') × (flat_effect vars op env row ≡ flat_effect vars op env' row)
@@ -53,7 +53,7 @@ RecordsAreOps = (vars : List Ty) (txn n : ℕ) (records : List Change) (s : Stat
     → (numbered_meaning vars (numbered_from n (map record_op records)) s ≡ record { env = s.env; tables = with_changes s.tables records })
     × (numbered_notes vars txn (numbered_from n (map record_op records)) s ≡ [])
 
--- the least of notes doesn't hang on their order, and the first note of two lists is the least of their first ones
+-- the least of notes doesn't depend on their order, and the first note of two lists is the least of their first ones
 abbrev pub NotesInAnyOrder : Type 0
 NotesInAnyOrder = ((n a b : Option Note) → least (least n a) b ≡ least (least n b) a)
     × ((a b c : Option Note) → least a (least b c) ≡ least (least a b) c)

@@ -9,6 +9,6 @@ use Rattle.pac_ops.specs.contracts.piece.PieceIdOrd.TheImpl as derived
 abbrev pub piece_cmp : PieceId → PieceId → Ordering
 piece_cmp a b = ordering_then (nat_cmp a.txn b.txn) (nat_cmp a.block b.block)
 
--- it is the order that comparisons of pieces answer
+-- comparisons of pieces return this order
 pub piece_order : (a b : PieceId) → (derived.ghosts).cmp a b ≡ piece_cmp a b
 piece_order a b = refl

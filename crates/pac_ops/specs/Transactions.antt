@@ -23,7 +23,7 @@ abbrev pub with_changes : Tables → List Change → Tables
 with_changes tables [] = tables
 with_changes tables (change ∷ changes) = with_changes (with_change tables change) changes
 
--- the state after a call of a program, and the notes that it leaves; one of a program that is not there does nothing
+-- the state after a call of a program; one of a program that is not there does nothing
 abbrev pub call_state : Option Program → List Value → Tables → State
 call_state None args tables = opening args tables
 call_state (Some program) args tables = flat_meaning program.vars program.ops (opening args tables)
@@ -33,7 +33,7 @@ abbrev pub call_notes : Option Program → ℕ → List Value → Tables → Lis
 call_notes None txn args tables = []
 call_notes (Some program) txn args tables = notes_of program.vars txn 0 program.ops (opening args tables)
 
--- the same of a transaction; ad hoc records have no variables, and leave no note
+-- the state after a transaction; ad hoc records have no variables
 abbrev pub txn_state : List Program → Txn → Tables → State
 txn_state programs (ACall call) tables = call_state (slice_get programs call.proc) call.args tables
 txn_state programs (AdHoc records) tables = record { env = empty; tables = with_changes tables records }

@@ -3,7 +3,7 @@ ghost use Rattle.pac_ops.specs.Defaults.{DefaultsByKind};
 ghost use Rattle.pac_ops.specs.OperationLaws.{ChangesOnlyItsOwn, EffectByUses, HasForm, NotesInAnyOrder, RecordsAreOps, ValueByUses, WholeProgram};
 ghost use Rattle.pac_ops.specs.StaysFit.{StaysFit, TypedOverValues};
 
-/// What an operation does depends on the variables that it uses and on the row at its cell, and changes its own row and
+/// What an operation does depends on the variables that it uses and the row at its cell alone, and changes its own row and
 /// variable alone.
 pub fn one_operation()
     ensures value { ValueByUses }

@@ -1,4 +1,4 @@
--- Next pairs of accesses: those that a queue for each key, and one of the whole ones, joins.
+-- Next pairs of accesses: those that a queue for each key, and one for the whole block, joins.
 use Rattle.std.specs.Prelude.{◌≡◌, ◌⊎◌, ℕ, ◌<◌, Bool, true, false, ◌&&◌, ◌||◌}
 use Rattle.std.specs.List.{list_any}
 use Rattle.std.specs.Ordering.{eq_by_cmp}
@@ -12,7 +12,7 @@ abbrev pub is_whole : Access → Bool
 is_whole Whole = true
 is_whole (Keys l) = false
 
--- a whole access counts as touching and modifying no key
+-- the access touches the row at a key; a whole access touches and modifies none here
 abbrev pub has_key : Access → Cell → Bool
 has_key Whole a = false
 has_key (Keys l) a = list_any (λ e. eq_by_cmp cell_cmp (named_cell e) a) l

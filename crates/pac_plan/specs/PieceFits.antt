@@ -24,7 +24,8 @@ use Rattle.pac_plan.specs.Worlds.{home_in, home_or}
 
 -- ---- pieces of a call
 
--- what an operation of a part uses from elsewhere, where each of its conditions on a variable from elsewhere holds
+-- an operation of a part, where its conditions on variables from elsewhere hold, finds a value of its type for each variable
+-- that it uses from elsewhere
 abbrev pub FindsFromElsewhere : List Ty → List NumberedOp → Values → Type 0
 FindsFromElsewhere vars os env = (o : NumberedOp) → Mem o os → may_pass os env o.1.conds ≡ true → (x : ℕ) → op_uses x o.1 ≡ true → defined_in os x ≡ false → HasTyped vars env x
 

@@ -75,7 +75,7 @@ abbrev pub may_pass : List NumberedOp → Values → List (ℕ × Bool) → Bool
 may_pass os env [] = true
 may_pass os env (c ∷ cs) = (defined_in os c.0 || is_as_asked c.1 (get env c.0)) && may_pass os env cs
 
--- the cell at the location that an operation names, unless its key traps
+-- the cell that an operation names, unless its key traps
 abbrev pub op_cell : FlatOp → Values → Option Cell
 op_cell op env = cell_in (touched op.kind env)
 
@@ -125,8 +125,8 @@ covers_write (Keys l) a = list_any (λ e. e.is_write && eq_by_cmp cell_cmp (name
 
 -- ---- worlds
 
--- what the transactions run, by number; the block of each operation; the home of each table; the edges between blocks;
--- the batch of each transaction
+-- what the transactions run, by number, and the types of their variables; the block of each operation; the home of each
+-- table; the edges between blocks; the batch of each transaction
 pub record World : Type 0 where
   pub code : ℕ → List NumberedOp
   pub vars : ℕ → List Ty
@@ -187,12 +187,12 @@ abbrev pub pieces : World → List ℕ → List ℕ → List PieceId
 pieces w [] bs = []
 pieces w (t ∷ ts) bs = blocks_of w t bs ++ pieces w ts bs
 
--- the pieces that F picks
+-- the state after the pieces that F picks, one after another
 unfoldable pub partial : World → (PieceId → Bool) → List PieceId → Present → Present
 partial w F [] s = s
 partial w F (p ∷ ps) s = partial w F ps (if F p then apply w p s else s)
 
--- all operations of the transactions in order
+-- the state after all operations of the transactions in order
 unfoldable pub replayed_in : World → List ℕ → Present → Present
 replayed_in w [] s = s
 replayed_in w (t ∷ ts) s = replayed_in w ts (run_ops t (w.vars t) (w.code t) s)
@@ -201,7 +201,7 @@ replayed_in w (t ∷ ts) s = replayed_in w ts (run_ops t (w.vars t) (w.code t) s
 abbrev pub is_piece : PieceId → PieceId → Bool
 is_piece p q = p.txn == q.txn && p.block == q.block
 
--- F and p
+-- the pieces that F picks, and p
 abbrev pub adds : (PieceId → Bool) → PieceId → PieceId → Bool
 adds F p q = is_piece p q || F q
 
@@ -221,12 +221,14 @@ abbrev pub at_location : Present → Location → Option RowValues × Option Val
 at_location s (RowOf a) = (get s.tables a, None)
 at_location s (VarOf t x) = (None, get (s.envs t) x)
 
--- footprints
+-- what a piece may touch: the rows that its access names, in tables whose home is its block, and the variables that it uses or
+-- defines
 abbrev pub touches : World → (ℕ → Values) → PieceId → Location → Bool
 touches w env p (RowOf a) = p.block == w.home a.0 && covers (access w env p) a
 touches w env p (VarOf t x) = t == p.txn && (used_in (ops w p) x || defined_in (ops w p) x)
 
--- what a piece may change: rows that its access modifies, and the variables that it defines
+-- what a piece may change: the rows that its access modifies, in tables whose home is its block, and the variables that it
+-- defines
 abbrev pub writes : World → (ℕ → Values) → PieceId → Location → Bool
 writes w env p (RowOf a) = p.block == w.home a.0 && covers_write (access w env p) a
 writes w env p (VarOf t x) = t == p.txn && defined_in (ops w p) x

@@ -9,7 +9,7 @@ use Rattle.pac_plan.specs.Analysis.{block_in, HasBlockEdge}
 
 -- the blocks keep what has to be kept in order
 pub record KeepsOrder (parts : PlanParts) : Type 0 where
-  -- one operation of a procedure defines a variable
+  -- at most one operation of a procedure defines a variable
   pub once : (p i j x : ℕ) (program : Program) → slice_get parts.programs p ≡ Some program → Defines program.ops i x → Defines program.ops j x → i ≡ j
   -- what uses a variable comes after what defines it, in its block or in one to which an edge leads
   pub flows : (p i j x : ℕ) (program : Program) → slice_get parts.programs p ≡ Some program → Defines program.ops i x → Uses program.ops j x

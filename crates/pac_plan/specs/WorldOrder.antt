@@ -5,12 +5,13 @@ use Rattle.pac_base.specs.Members.{Each, Mem}
 use Rattle.pac_ops.specs.Effects.{NumberedOp, is_var, defined_in, used_in}
 use Rattle.pac_plan.specs.Pieces.{World, part}
 
--- an operation uses what no later one defines
+-- no operation uses a variable that a later one defines
 abbrev pub Ordered : List NumberedOp → Type 0
 Ordered [] = Unit {0}
 Ordered (o ∷ os) = Each (λ (d : NumberedOp). (x : ℕ) → is_var x (defined_variable d.1.kind) ≡ true → op_uses x o.1 ≡ false) os × Ordered os
 
--- one definition, edges along flow, numbering along edges, and one home for each table
+-- a variable is defined in one block; edges go along flow and lead to higher numbers; each table has one home; no operation
+-- uses what a later one defines; a later transaction is in no earlier batch
 pub record WellFormed (w : World) : Type 0 where
   pub once : (t b b' x : ℕ) → defined_in (part (w.block t) b (w.code t)) x ≡ true → defined_in (part (w.block t) b' (w.code t)) x ≡ true → b ≡ b'
   pub flows : (t b b' x : ℕ) → defined_in (part (w.block t) b (w.code t)) x ≡ true → used_in (part (w.block t) b' (w.code t)) x ≡ true → (b ≡ b') ⊎ (w.edge b b' ≡ true)

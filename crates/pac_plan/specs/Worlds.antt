@@ -96,7 +96,7 @@ numbers first txns = range_with_len first (length txns)
 abbrev pub blocks_in : PlanParts → List ℕ
 blocks_in parts = range_with_len 0 parts.blocks
 
--- ad hoc records are of tables of the plan
+-- ad hoc records fit tables of the plan
 abbrev pub RecordsInTables : PlanParts → Txn → Type 0
 RecordsInTables parts (ACall call) = Unit {0}
 RecordsInTables parts (AdHoc records) = RecordsFit parts.tables records

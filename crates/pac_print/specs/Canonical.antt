@@ -1,4 +1,4 @@
--- The canonical text of a tree: a line for each table and each statement, and parentheses only where the levels of the
+-- The canonical text of a tree: lines of its own for each table, procedure and statement, and parentheses only where the levels of the
 -- grammar need them.
 use Rattle.std.specs.Prelude.{ℕ, suc, ℤ, List, [], ◌∷◌, ◌++◌, codes, flat_map, map, nat_le, if◌then◌else◌}
 use Rattle.pac_value.specs.declared.values.Ty.{Ty}
@@ -22,7 +22,7 @@ use Rattle.pac_syntax.specs.Grammar.{operator_symbol, precedence, left_level}
 
 -- ---- types
 
--- no column, key or parameter of a tree that is read is a bool
+-- a type as it is written; no column, key or parameter of a tree that is read is a bool
 abbrev pub type_text : Ty → List ℕ
 type_text ty.Int = codes "int"
 type_text ty.Text = codes "text"
@@ -44,12 +44,14 @@ abbrev pub binary_text : BinOp → Spelled → Spelled → List ℕ
 binary_text op left right =
     operand_text (left_level (precedence op)) left ++ codes " " ++ symbol_spelling (operator_symbol op) ++ codes " " ++ operand_text (precedence op) right
 
+-- an expression, from its operands
 abbrev pub expr_step : ExprNode-F Spelled → Spelled
 expr_step (Literal literal) = record { level = 0; text = value_text literal.value }
 expr_step (Name name) = record { level = 0; text = name.name }
 expr_step (Binary at op left right) = record { level = suc (precedence op); text = binary_text op left right }
 expr_step (Not at operand) = record { level = 0; text = codes "!" ++ operand_text 0 operand }
 
+-- an expression as it is spelled, with its level
 abbrev pub spelled : ExprNode → Spelled
 spelled = fold-ExprNode Spelled expr_step
 
@@ -84,7 +86,7 @@ Indented = List ℕ → List ℕ
 abbrev pub deeper : List ℕ → List ℕ
 deeper indent = indent ++ codes "  "
 
--- each statement on its own line
+-- each statement on lines of its own
 abbrev pub statement_lines : List Indented → Indented
 statement_lines [] indent = []
 statement_lines (stmt ∷ stmts) indent = indent ++ stmt indent ++ codes "\n" ++ statement_lines stmts indent
@@ -94,6 +96,7 @@ abbrev pub else_text : List Indented → Indented
 else_text [] indent = []
 else_text (stmt ∷ stmts) indent = indent ++ codes "} else {\n" ++ statement_lines (stmt ∷ stmts) (deeper indent)
 
+-- FROM..TO
 abbrev pub bounds_text : ℤ → ℤ → List ℕ
 bounds_text from to = value_text (value.Int from) ++ codes ".." ++ value_text (value.Int to)
 
@@ -115,6 +118,7 @@ stmt_step (If test first second) indent =
     codes "if " ++ expr_text test ++ codes " {\n" ++ statement_lines first (deeper indent) ++ else_text second indent ++ indent ++ codes "}"
 stmt_step (For name from to body) indent = loop_head name from to ++ statement_lines body (deeper indent) ++ indent ++ codes "}"
 
+-- a statement, by its indent
 abbrev pub stmt_text : StmtNode → Indented
 stmt_text = fold-StmtNode Indented stmt_step
 
@@ -142,6 +146,7 @@ abbrev pub params_text : List ColumnNode → List ℕ
 params_text [] = []
 params_text (param ∷ params) = column_text param ++ flat_map further_column_text params
 
+-- a procedure, with its statements indented once
 abbrev pub proc_text : ProcNode → List ℕ
 proc_text proc = codes "proc " ++ proc.name.name ++ codes "(" ++ params_text proc.params ++ codes ") {\n" ++ stmts_text (deeper []) proc.body ++ codes "}\n"
 

@@ -80,8 +80,8 @@ fn push_proc(alloc: Global, out: &mut Vec<u8>, proc: &ProcNode) -> Result<(), No
     Ok(())
 }
 
-/// The canonical text of a tree, which the offsets of its nodes are no part of. The text of a tree that was read reads as
-/// that tree again, where it has at most 65,536 bytes. Linear in the text.
+/// The canonical text of a tree, which doesn't depend on the offsets of its nodes. The text of a tree that was read reads as
+/// that tree again but for the offsets, where it has at most 65,536 bytes. Linear in the text.
 ///
 /// # Errors
 ///

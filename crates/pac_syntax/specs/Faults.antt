@@ -10,6 +10,7 @@ use Rattle.pac_tokens.specs.declared.fault.Fault.{Fault}
 use Rattle.pac_syntax.specs.declared.tree.Tree.{Tree}
 use Rattle.pac_syntax.specs.Grammar.{Role, Plain, TableWord, ProcWord, ColumnName, ParamName, Operator, Paren, Nested, LastBound, Marked, Whole, tokens_of}
 
+-- a fault of this kind at this offset
 abbrev pub fault_of : FaultKind → ℕ → Fault
 fault_of kind at = record { at = at; kind = kind }
 
@@ -31,9 +32,11 @@ over_role (Paren n) at = past MAX_PARENS n (fault_of TooDeep at)
 over_role (Nested n) at = past MAX_NESTED n (fault_of TooDeep at)
 over_role (LastBound n loop) at = past MAX_TURNS n (fault_of TooMany loop)
 
+-- the fault of a token, where it is over its limit
 abbrev pub over : Marked → Option Fault
 over m = over_role m.role m.token.at
 
+-- the token is over no limit
 abbrev pub IsWithin : Marked → Type 0
 IsWithin m = over m ≡ None
 
@@ -45,7 +48,7 @@ ReadsTokens ts tree = (ms : List Marked) × Whole ms tree × (tokens_of ms ≡ t
 abbrev pub IsViable : List Spanned → Type 0
 IsViable p = (ms : List Marked) × (tree : Tree) × (more : List Spanned) × Whole ms tree × (tokens_of ms ≡ p ++ more)
 
--- the tokens p can go on to a catalogue, and not with what stands after them; or they are none, and the text ends
+-- a catalogue may begin with the tokens p, but not with the next token too; or the text ends after p, and p is no catalogue
 abbrev pub IsUnexpected : List Spanned → List Spanned → Type 0
 IsUnexpected p [] = IsViable p × ((ms : List Marked) (tree : Tree) → Whole ms tree → tokens_of ms ≡ p → ⊥)
 IsUnexpected p (t ∷ r) = IsViable p × (IsViable (p ++ (t ∷ [])) → ⊥)

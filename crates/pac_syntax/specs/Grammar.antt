@@ -110,6 +110,7 @@ pub record CatalogueForm : Type 0 where
 
 -- ---- operators and levels
 
+-- the symbol of an operator
 abbrev pub operator_symbol : BinOp → Symbol
 operator_symbol op.Add = symbol.Plus
 operator_symbol op.Sub = symbol.Minus
@@ -162,10 +163,12 @@ AtLevel n (ABinary op at l r) = (precedence op < n) × AtLevel (left_level (prec
 abbrev pub IsExpr : ExprForm → Type 0
 IsExpr e = AtLevel 5 e
 
+-- the operators of values stand as the levels say
 abbrev pub AreValues : ValuesForm → Type 0
 AreValues NoValue = Unit {0}
 AreValues (AValue comma e vs) = IsExpr e × AreValues vs
 
+-- the operators of statements stand as the levels say
 abbrev pub AreStmts : StmtsForm → Type 0
 AreStmts NoStmt = Unit {0}
 AreStmts (ALet p0 x p1 e p2 s) = IsExpr e × AreStmts s
@@ -179,12 +182,14 @@ AreStmts (AnIf p0 e p1 first p2 s) = IsExpr e × AreStmts first × AreStmts s
 AreStmts (AnIfElse p0 e p1 first p2 p3 p4 second p5 s) = IsExpr e × AreStmts first × AreStmts second × AreStmts s
 AreStmts (ALoop p0 x p1 a p2 b p3 body p4 s) = AreStmts body × AreStmts s
 
+-- the operators of procedures stand as the levels say
 abbrev pub AreProcs : ProcsForm → Type 0
 AreProcs NoProc = Unit {0}
 AreProcs (AProc p0 n p1 ps p2 p3 s p4 procs) = AreStmts s × AreProcs procs
 
 -- ---- the trees of derivations
 
+-- a literal in the tree, at the offset of its first token
 abbrev pub literal_node : LiteralForm → LiteralNode
 literal_node (AnInt at z) = record { at = at; value = value.Int z }
 literal_node (ANegative minus at z) = record { at = minus; value = value.Int z }
@@ -208,10 +213,12 @@ expr_node (ANot at e) = Not at (expr_node e)
 expr_node (AParen opening e closing) = expr_node e
 expr_node (ABinary op at l r) = Binary (expr_offset l) op (expr_node l) (expr_node r)
 
+-- further values in the tree
 abbrev pub value_nodes : ValuesForm → List ExprNode
 value_nodes NoValue = []
 value_nodes (AValue comma e vs) = expr_node e ∷ value_nodes vs
 
+-- the int of a bound
 abbrev pub bound_value : BoundForm → ℤ
 bound_value (ABound at z) = z
 bound_value (ANegativeBound minus at z) = z
@@ -230,29 +237,36 @@ stmt_nodes (AnIf p0 e p1 first p2 s) = stmt.If (expr_node e) (stmt_nodes first) 
 stmt_nodes (AnIfElse p0 e p1 first p2 p3 p4 second p5 s) = stmt.If (expr_node e) (stmt_nodes first) (stmt_nodes second) ∷ stmt_nodes s
 stmt_nodes (ALoop p0 x p1 a p2 b p3 body p4 s) = stmt.For x (bound_value a) (bound_value b) (stmt_nodes body) ∷ stmt_nodes s
 
+-- the type that a word names
 abbrev pub type_of_form : TypeForm → Ty
 type_of_form (AnIntType at) = ty.Int
 type_of_form (ATextType at) = ty.Text
 
+-- a column or a parameter in the tree
 abbrev pub column_node : NameNode → TypeForm → ColumnNode
 column_node n t = record { name = n; ty = type_of_form t }
 
+-- further columns or parameters in the tree
 abbrev pub column_nodes : ColumnsForm → List ColumnNode
 column_nodes NoColumn = []
 column_nodes (AColumn comma n t cs) = column_node n t ∷ column_nodes cs
 
+-- parameters in the tree
 abbrev pub param_nodes : ParamsForm → List ColumnNode
 param_nodes NoParam = []
 param_nodes (AParam n t cs) = column_node n t ∷ column_nodes cs
 
+-- tables in the tree
 abbrev pub table_nodes : TablesForm → List TableNode
 table_nodes NoTable = []
 table_nodes (ATable p0 n p1 p2 k p3 c t cs p4 p5 ts) = record { name = n; key = type_of_form k; columns = column_node c t ∷ column_nodes cs } ∷ table_nodes ts
 
+-- procedures in the tree
 abbrev pub proc_nodes : ProcsForm → List ProcNode
 proc_nodes NoProc = []
 proc_nodes (AProc p0 n p1 ps p2 p3 s p4 procs) = record { name = n; params = param_nodes ps; body = stmt_nodes s } ∷ proc_nodes procs
 
+-- the tree of a derivation
 abbrev pub tree_of : CatalogueForm → Tree
 tree_of form = record { tables = table_nodes form.tables; procs = proc_nodes form.procs }
 
@@ -292,22 +306,28 @@ pub data Role : Type 0 where
   Nested : ℕ → Role  -- the `if` or `for` of that many conditionals and loops that stand one in another
   LastBound : (turns loop : ℕ) → Role  -- the int with which a loop has that many turns, whose `for` stands at this offset
 
+-- a token with its role
 pub record Marked : Type 0 where
   pub token : Spanned
   pub role : Role
 
+-- a token at an offset, with its role
 abbrev pub marked : Token → ℕ → Role → Marked
 marked t at role = record { token = record { token = t; at = at }; role = role }
 
+-- a keyword at an offset, with its role
 abbrev pub keyword_mark : Keyword → ℕ → Role → Marked
 keyword_mark word at role = marked (token.Keyword word) at role
 
+-- a symbol at an offset, with its role
 abbrev pub symbol_mark : Symbol → ℕ → Role → Marked
 symbol_mark sign at role = marked (token.Symbol sign) at role
 
+-- a name at its own offset, with its role
 abbrev pub name_mark : NameNode → Role → Marked
 name_mark n role = marked (token.Name n.name) n.at role
 
+-- the tokens of a literal, before those that follow
 abbrev pub literal_before : LiteralForm → List Marked → List Marked
 literal_before (AnInt at z) rest = marked (token.Int z) at Plain ∷ rest
 literal_before (ANegative minus at z) rest = symbol_mark symbol.Minus minus Plain ∷ marked (token.Negative z) at Plain ∷ rest
@@ -336,6 +356,7 @@ expr_before d o (ABinary op at l r) rest = expr_before d o l (symbol_mark (opera
 abbrev pub whole_before : ExprForm → List Marked → List Marked
 whole_before e rest = expr_before 0 0 e rest
 
+-- the tokens of further values, before those that follow
 abbrev pub values_before : ValuesForm → List Marked → List Marked
 values_before NoValue rest = rest
 values_before (AValue comma e vs) rest = symbol_mark symbol.Comma comma Plain ∷ whole_before e (values_before vs rest)
@@ -349,7 +370,7 @@ bound_before (ANegativeBound minus at z) role rest = symbol_mark symbol.Minus mi
 abbrev pub last_bound : Around → ℕ → ℤ → ℤ → Role
 last_bound d loop from to = LastBound (loop_turns d from to) loop
 
--- the tokens of statements with so much round them
+-- the tokens of statements, with what stands round them, before those that follow
 abbrev pub stmts_before : Around → StmtsForm → List Marked → List Marked
 stmts_before d NoStmt rest = rest
 stmts_before d (ALet p0 x p1 e p2 s) rest =
@@ -387,6 +408,7 @@ stmts_before d (ALoop p0 x p1 a p2 b p3 body p4 s) rest =
     ∷ bound_before a Plain (symbol_mark symbol.Range p2 Plain ∷ bound_before b (last_bound d p0 (bound_value a) (bound_value b)) (symbol_mark symbol.OpenBrace p3 Plain
     ∷ stmts_before (in_loop d (bound_value a) (bound_value b)) body (symbol_mark symbol.CloseBrace p4 Plain ∷ stmts_before d s rest)))
 
+-- the token of a type
 abbrev pub type_mark : TypeForm → Marked
 type_mark (AnIntType at) = keyword_mark keyword.Int at Plain
 type_mark (ATextType at) = keyword_mark keyword.Text at Plain
@@ -397,6 +419,7 @@ columns_before role i NoColumn rest = rest
 columns_before role i (AColumn comma n t cs) rest =
     symbol_mark symbol.Comma comma Plain ∷ name_mark n (role (suc i)) ∷ type_mark t ∷ columns_before role (suc i) cs rest
 
+-- the tokens of parameters, before those that follow
 abbrev pub params_before : ParamsForm → List Marked → List Marked
 params_before NoParam rest = rest
 params_before (AParam n t cs) rest = name_mark n (ParamName 1) ∷ type_mark t ∷ columns_before ParamName 1 cs rest
@@ -418,9 +441,11 @@ procs_before i (AProc p0 n p1 ps p2 p3 s p4 procs) rest =
     ∷ params_before ps (symbol_mark symbol.CloseParen p2 Plain ∷ symbol_mark symbol.OpenBrace p3 Plain
     ∷ stmts_before outermost s (symbol_mark symbol.CloseBrace p4 Plain ∷ procs_before (suc i) procs rest))
 
+-- the tokens of a derivation, with their roles
 abbrev pub marks_of : CatalogueForm → List Marked
 marks_of form = tables_before 0 form.tables (procs_before 0 form.procs [])
 
+-- tokens without their roles
 abbrev pub tokens_of : List Marked → List Spanned
 tokens_of [] = []
 tokens_of (m ∷ ms) = m.token ∷ tokens_of ms

@@ -17,6 +17,7 @@ is_stored_type Int = true
 is_stored_type Text = true
 is_stored_type BoolTy = false
 
+-- a column or a parameter is an int or a text
 abbrev pub HasStoredType : ColumnNode → Type 0
 HasStoredType node = IsTrue (is_stored_type node.ty)
 
@@ -27,6 +28,7 @@ pub record IsTableWithinLimits (node : TableNode) : Type 0 where
   pub key : IsTrue (is_stored_type node.key)
   pub columns : All HasStoredType node.columns
 
+-- the sum of numbers
 abbrev pub total : List ℕ → ℕ
 total [] = 0
 total (n ∷ ns) = n + total ns
@@ -37,9 +39,11 @@ size_step (If test first second) = suc (total first + total second)
 size_step (For name from to body) = suc (total body)
 size_step _ = 1
 
+-- how many statements a statement is
 abbrev pub size : StmtNode → ℕ
 size = fold-StmtNode ℕ size_step
 
+-- how many statements these are together
 abbrev pub sizes : List StmtNode → ℕ
 sizes nodes = total (map size nodes)
 

@@ -78,6 +78,7 @@ pub record Stop : Type 0 where
 
 -- ---- tokens
 
+-- the number of a keyword
 abbrev pub keyword_code : Keyword → ℕ
 keyword_code keyword.Table = 0
 keyword_code keyword.Proc = 1
@@ -99,6 +100,7 @@ keyword_code keyword.False = 16
 keyword_code keyword.For = 17
 keyword_code keyword.In = 18
 
+-- the number of a symbol
 abbrev pub symbol_code : Symbol → ℕ
 symbol_code symbol.OpenParen = 0
 symbol_code symbol.CloseParen = 1

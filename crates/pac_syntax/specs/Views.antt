@@ -107,7 +107,7 @@ is_too_deep d word.If = nat_le MAX_NESTED d.nested
 is_too_deep d word.For = nat_le MAX_NESTED d.nested
 is_too_deep d _ = false
 
--- what an int of this role, wherever it stands, is over its limit by
+-- `limit` gives the fault that an int of this role has, wherever it stands
 abbrev pub IsLimit : (ℤ → Role) → (ℤ → Option Fault) → Type 0
 IsLimit role limit = (z : ℤ) (at : ℕ) → over_role (role z) at ≡ limit z
 

@@ -84,6 +84,7 @@ pub record LooplessCatalogue : Type 0 where
   pub tables : TablesForm
   pub procs : LooplessProcs
 
+-- the operators of statements stand as the levels say
 abbrev pub AreLooplessStmts : LooplessStmts → Type 0
 AreLooplessStmts NoStmt = Unit {0}
 AreLooplessStmts (ALet p0 x p1 e p2 s) = IsExpr e × AreLooplessStmts s
@@ -96,6 +97,7 @@ AreLooplessStmts (AnAbort p0 p1 e p2 s) = IsExpr e × AreLooplessStmts s
 AreLooplessStmts (AnIf p0 e p1 first p2 s) = IsExpr e × AreLooplessStmts first × AreLooplessStmts s
 AreLooplessStmts (AnIfElse p0 e p1 first p2 p3 p4 second p5 s) = IsExpr e × AreLooplessStmts first × AreLooplessStmts second × AreLooplessStmts s
 
+-- the operators of procedures stand as the levels say
 abbrev pub AreLooplessProcs : LooplessProcs → Type 0
 AreLooplessProcs NoProc = Unit {0}
 AreLooplessProcs (AProc p0 n p1 ps p2 p3 s p4 procs) = AreLooplessStmts s × AreLooplessProcs procs
@@ -115,10 +117,12 @@ loopless_stmts (AnAbort p0 p1 e p2 s) = stmt.AbortIf (expr_node e) ∷ loopless_
 loopless_stmts (AnIf p0 e p1 first p2 s) = stmt.If (expr_node e) (loopless_stmts first) [] ∷ loopless_stmts s
 loopless_stmts (AnIfElse p0 e p1 first p2 p3 p4 second p5 s) = stmt.If (expr_node e) (loopless_stmts first) (loopless_stmts second) ∷ loopless_stmts s
 
+-- procedures in the tree
 abbrev pub loopless_procs : LooplessProcs → List ProcNode
 loopless_procs NoProc = []
 loopless_procs (AProc p0 n p1 ps p2 p3 s p4 procs) = record { name = n; params = param_nodes ps; body = loopless_stmts s } ∷ loopless_procs procs
 
+-- the tree of a derivation
 abbrev pub loopless_tree : LooplessCatalogue → Tree
 loopless_tree form = record { tables = table_nodes form.tables; procs = loopless_procs form.procs }
 
@@ -166,11 +170,13 @@ loopless_procs_before i (AProc p0 n p1 ps p2 p3 s p4 procs) rest =
     ∷ params_before ps (symbol_mark symbol.CloseParen p2 Plain ∷ symbol_mark symbol.OpenBrace p3 Plain
     ∷ loopless_stmts_before 0 s (symbol_mark symbol.CloseBrace p4 Plain ∷ loopless_procs_before (suc i) procs rest))
 
+-- the tokens of a derivation, with their roles
 abbrev pub loopless_marks : LooplessCatalogue → List Marked
 loopless_marks form = tables_before 0 form.tables (loopless_procs_before 0 form.procs [])
 
 -- ---- trees without loops
 
+-- a statement is no loop and has none, from whether those in its blocks are so
 abbrev pub no_loop_step : StmtNode-F Bool → Bool
 no_loop_step (form.If test first second) = list_all (λ b. b) first && list_all (λ b. b) second
 no_loop_step (form.For name from to body) = false
@@ -180,6 +186,7 @@ no_loop_step _ = true
 abbrev pub is_no_loop : StmtNode → Bool
 is_no_loop = fold-StmtNode Bool no_loop_step
 
+-- no statement is a loop, and none has one in its blocks
 abbrev pub are_no_loops : List StmtNode → Bool
 are_no_loops nodes = list_all (λ b. b) (map is_no_loop nodes)
 

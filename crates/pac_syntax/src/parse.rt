@@ -22,7 +22,8 @@ use std::alloc::Global;
 ///
 /// # Errors
 ///
-/// `Fault` exactly where the text is no catalogue in the grammar and within its limits: its first fault, and it has one.
+/// `Fault` only where the text is no catalogue in the grammar and within its limits: its first fault. `NoMemory` may come for
+/// any text of at most 65,536 bytes.
 pub fn parse_catalogue(alloc: Global, text: &[u8]) -> Result<Tree, SyntaxError>
     ensures reads { IfOk result (λ tree. Reads text.now tree) }
     ensures tree { IfOk result IsTree }

@@ -10,7 +10,7 @@ abbrev pub without_cells : Tables → List Cell → Tables
 without_cells tables [] = tables
 without_cells tables (cell ∷ cells) = remove (without_cells tables cells) cell
 
--- no row is lost, and none stands anew but where one of the writes is made
+-- a cell that has a row still has one, and no cell changes but those of the writes
 pub record Grows (writes : List Write) (old new : Tables) : Type 0 where
   pub kept : (cell : Cell) → IsSome (get old cell) → IsSome (get new cell)
   pub others : (cell : Cell) → is_written writes cell ≡ false → get new cell ≡ get old cell

@@ -1,4 +1,4 @@
-// A table behind a hash of its keys.
+// A table hashed by its keys.
 ghost use Rattle.std.specs.Prelude.{◌≡◌, IfOk, OnOk, map as list_map};
 ghost use Rattle.std.specs.FinMap as map;
 ghost use Rattle.indexmap.specs.IndexMap as indexed;
@@ -10,7 +10,7 @@ use pac_value::{Key, Row};
 use std::alloc::Global;
 use std::marker::Model;
 
-/// The rows of one table behind a hash of their keys, in no order. A look-up and a change take constant time, unless many
+/// The rows of one table, hashed by their keys, in no order. A look-up and a change take constant time, unless many
 /// keys have one hash; the hash is a fixed function, so that keys chosen for it make this slow and change no answer. The
 /// keys are sorted when they are asked for.
 #[derive(Drop)]

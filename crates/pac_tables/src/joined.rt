@@ -18,7 +18,7 @@ pub struct JoinedRows<T: TableRows> {
 /// The rows of tables, each table's in the order of their keys: the keys of a table are at hand in order.
 pub type OrderedRows = JoinedRows<OrderedTable>;
 
-/// The rows of tables, each table's behind a hash of their keys: a row is found in constant time.
+/// The rows of tables, each table's hashed by their keys: a row is found in constant time, unless many keys have one hash.
 pub type HashedRows = JoinedRows<HashedTable>;
 
 impl<T: TableRows> Model for JoinedRows<T> {

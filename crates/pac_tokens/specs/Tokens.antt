@@ -26,6 +26,7 @@ use Rattle.pac_value.specs.Literals.{quoted}
 abbrev pub is_blank : ℕ → Bool
 is_blank b = nat_eq b space || nat_eq b tab || nat_eq b carriage_return || nat_eq b line_feed
 
+-- a byte from low to high, both included
 abbrev pub is_in : ℕ → ℕ → ℕ → Bool
 is_in low high b = nat_le low b && nat_le b high
 
@@ -33,6 +34,7 @@ is_in low high b = nat_le low b && nat_le b high
 abbrev pub is_letter : ℕ → Bool
 is_letter b = is_in lower_a lower_z b || is_in upper_a upper_z b || nat_eq b underscore
 
+-- a decimal digit
 abbrev pub is_digit : ℕ → Bool
 is_digit b = is_in digit_zero digit_nine b
 
@@ -46,6 +48,7 @@ gap_in comment [] = 0
 gap_in true (b ∷ bs) = suc (gap_in (not (nat_eq b line_feed)) bs)
 gap_in false (b ∷ bs) = if nat_eq b hash then suc (gap_in true bs) else (if is_blank b then suc (gap_in false bs) else 0)
 
+-- how many bytes of white space and comments come first
 abbrev pub gap : List ℕ → ℕ
 gap bytes = gap_in false bytes
 
@@ -143,10 +146,12 @@ IsBad before bytes _ = ⊥
 
 -- ---- what stands before the next token: a name, an int, a text, `true`, `false` and `)` end a value
 
+-- what stands before the token after a `-`
 abbrev pub after_minus : Before → Before
 after_minus Value = Other
 after_minus _ = LiteralMinus
 
+-- what stands before the token after this one
 abbrev pub after : Before → Token → Before
 after before (token.Name n) = Value
 after before (token.Int z) = Value

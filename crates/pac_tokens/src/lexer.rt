@@ -19,7 +19,7 @@ pub struct Lexed {
     pub fault: Option<Fault>,
 }
 
-// What stands before a token, for a `-`: after a value it is an operator, and elsewhere it begins a literal.
+/// What stands before a token, for a `-`: after a value it is an operator, and elsewhere it begins a literal.
 #[derive(Clone, Copy, Debug, PartialEq, Eq)]
 pub enum Before {
     Value,

@@ -17,8 +17,9 @@
 //!
 //! `specs/Tokens.antt` defines the tokens of a text: each is the longest prefix of the rest that spells one. [`tokens`]
 //! returns them whenever they exist, and a fault is the text's only first one, but for out of memory (`ok`, `only`,
-//! `fault`, `one`). `specs/Spelling.antt` says how keywords, symbols and texts are spelled, `specs/Literal.antt` how an
-//! int or a text is written in tokens, `specs/Kinds.antt` how kinds of faults are printed. `specs/Lexing.antt` computes
+//! `fault`, `one`). `specs/Spelling.antt` says how keywords and symbols are spelled, `specs/Literals.antt` of `pac_value` how
+//! texts are, `specs/Literal.antt` how an int or a text is written in tokens, `specs/Kinds.antt` how kinds of faults are
+//! printed. `specs/Lexing.antt` computes
 //! the longest token from the first byte, as the lexer does, and no public clause names it: `proofs/Longest.antt` shows
 //! that they agree.
 #![tactic(auto)]

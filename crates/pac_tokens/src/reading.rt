@@ -16,7 +16,8 @@ use std::alloc::Global;
 ///
 /// # Errors
 ///
-/// `Fault` exactly where the text isn't a list of tokens: the first fault of a token, with its offset; it has one.
+/// `Fault` only where the text isn't a list of tokens: its first fault of a token, with its offset. `NoMemory` may come for any
+/// text.
 pub fn tokens(alloc: Global, text: &[u8]) -> Result<Tokens, SyntaxError>
     ensures ok { IfOk result (λ found. IsLexed text.now found None) }
     ensures only { (ts : List ASpanned) → IsLexed text.now ts None → Only result ts }

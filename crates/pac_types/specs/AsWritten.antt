@@ -11,15 +11,17 @@ abbrev pub none_loops : List Bool → Bool
 none_loops [] = true
 none_loops (b ∷ bs) = b && none_loops bs
 
+-- a statement has no loop, from whether those in its blocks have none
 abbrev pub loopless_step : Stmt-F Bool → Bool
 loopless_step (If x e first second) = none_loops first && none_loops second
 loopless_step (For x from to body) = false
 loopless_step _ = true
 
--- no loop stands in a statement, and in statements
+-- a statement is no loop, and has none in its blocks
 abbrev pub is_loopless : Stmt → Bool
 is_loopless = fold-Stmt Bool loopless_step
 
+-- no statement has a loop
 abbrev pub HasNoLoop : List Stmt → Type 0
 HasNoLoop stmts = IsTrue (none_loops (map is_loopless stmts))
 
@@ -44,5 +46,6 @@ written_step (For x from to body) = λ rest. rest
 abbrev pub stmt_as_written : Stmt → UnrolledSteps → UnrolledSteps
 stmt_as_written = fold-Stmt (UnrolledSteps → UnrolledSteps) written_step
 
+-- the steps of statements without loops as they are written
 abbrev pub as_written : List Stmt → UnrolledSteps
 as_written stmts = in_a_line (map stmt_as_written stmts) End

@@ -1,4 +1,4 @@
--- The faults that stand in a tree, each at its offset. They are lists only as sets are: their order means nothing.
+-- The faults that stand in a tree, each at its offset. The lists stand for sets: their order means nothing.
 use Rattle.std.specs.Prelude.{◌≡◌, ◌≤◌, ◌⊎◌, ℕ, suc, ◌+◌, Bool, true, false, nat_lt, nat_eq, not, if◌then◌else◌, List, [], ◌∷◌, ◌++◌, length, replicate, map, slice_get, Option, Some, None}
 use Rattle.std.specs.Option.{option_and_then}
 use Rattle.pac_value.specs.declared.values.Ty.{Ty}
@@ -28,15 +28,18 @@ use Rattle.pac_types.specs.Numbering.{number_of, variables, table_number, column
 use Rattle.pac_types.specs.WellFormed.{key_type, column_type, column_types}
 use Rattle.pac_value.specs.Scopes.{is_wanted}
 
+-- one fault, of this kind at this offset
 abbrev pub fault : ℕ → TypeFaultKind → List TypeFault
 fault at kind = record { at = at; kind = kind } ∷ []
 
+-- one fault where the test holds, and else none
 abbrev pub fault_if : Bool → ℕ → TypeFaultKind → List TypeFault
 fault_if true at kind = fault at kind
 fault_if false at kind = []
 
 -- ---- names
 
+-- there is a number, and it is less than the index
 abbrev pub is_before : Option ℕ → ℕ → Bool
 is_before None index = false
 is_before (Some number) index = nat_lt number index
@@ -50,6 +53,7 @@ twice names index name = fault_if (is_before (number_of names name.name) index) 
 abbrev pub Known : Type 0
 Known = List (Option (Option Ty))
 
+-- that many names whose variables aren't visible
 abbrev pub out_of_sight : ℕ → Known
 out_of_sight k = replicate k None
 
@@ -66,12 +70,14 @@ name_faults at (Some index) (Some ty) = []
 
 -- ---- expressions
 
+-- the two are one type
 abbrev pub same_ty : Ty → Ty → Bool
 same_ty IntTy IntTy = true
 same_ty TextTy TextTy = true
 same_ty BoolTy BoolTy = true
 same_ty _ _ = false
 
+-- ints and texts are ordered
 abbrev pub is_ordered : Ty → Bool
 is_ordered IntTy = true
 is_ordered TextTy = true
@@ -104,6 +110,7 @@ wanted_right And left = Some BoolTy
 wanted_right Or left = Some BoolTy
 wanted_right _ left = left
 
+-- the type is the one that is wanted, where one is
 abbrev pub is_same : Option Ty → Ty → Bool
 is_same None ty = true
 is_same (Some wanted) ty = same_ty ty wanted
@@ -113,6 +120,7 @@ abbrev pub is_fitting : Option Ty → Ty → Bool
 is_fitting None ty = true
 is_fitting (Some wanted) ty = is_wanted (Some ty) (Some wanted)
 
+-- a test is a bool
 abbrev pub is_test : Ty → Bool
 is_test ty = same_ty ty BoolTy
 
@@ -122,6 +130,7 @@ pub record Judged : Type 0 where
   pub ty : Option Ty
   pub faults : List TypeFault
 
+-- a fault where there is a type and it isn't taken
 abbrev pub wrong_type : (Ty → Bool) → ℕ → Option Ty → List TypeFault
 wrong_type takes at None = []
 wrong_type takes at (Some ty) = fault_if (not (takes ty)) at WrongType
@@ -130,6 +139,7 @@ wrong_type takes at (Some ty) = fault_if (not (takes ty)) at WrongType
 abbrev pub placed : (Ty → Bool) → Judged → List TypeFault
 placed takes e = wrong_type takes e.at e.ty ++ e.faults
 
+-- an expression, from its operands
 abbrev pub judge_step : List (List ℕ) → Known → ExprNode-F Judged → Judged
 judge_step names known (node.Literal literal) = record { at = literal.at; ty = Some (type_of literal.value); faults = [] }
 judge_step names known (node.Name name) = record {
@@ -144,11 +154,13 @@ judge_step names known (node.Binary at op left right) = record {
 }
 judge_step names known (node.Not at operand) = record { at = at; ty = option_and_then negated_type operand.ty; faults = placed is_test operand }
 
+-- an expression, over a procedure's names and what is known of them
 abbrev pub judged : List (List ℕ) → Known → ExprNode → Judged
 judged names known = fold-ExprNode Judged (judge_step names known)
 
 -- ---- statements
 
+-- a fault where a name has no number
 abbrev pub unknown : Option ℕ → ℕ → List TypeFault
 unknown None at = fault at UnknownName
 unknown (Some n) at = []
@@ -157,6 +169,7 @@ unknown (Some n) at = []
 abbrev pub key_wanted : List Table → Option ℕ → Option Ty
 key_wanted tables table = option_and_then (λ t. key_type tables t) table
 
+-- the type of a table's column, where there are both
 abbrev pub column_wanted : List Table → Option ℕ → List ℕ → Option Ty
 column_wanted tables table name = option_and_then (λ t. option_and_then (λ c. column_type tables t c) (column_number tables t name)) table
 
@@ -165,9 +178,11 @@ abbrev pub column_faults : List Table → Option ℕ → NameNode → List TypeF
 column_faults tables None column = []
 column_faults tables (Some t) column = unknown (column_number tables t column.name) column.at
 
+-- a fault where values are not as many as columns
 abbrev pub count_faults : ℕ → ℕ → ℕ → List TypeFault
 count_faults at values columns = fault_if (not (nat_eq values columns)) at WrongCount
 
+-- the same over a table, where it is known
 abbrev pub wrong_count : List Table → Option ℕ → ℕ → ℕ → List TypeFault
 wrong_count tables None at values = []
 wrong_count tables (Some t) at values = count_faults at values (length (column_types tables t))
@@ -177,6 +192,7 @@ abbrev pub values_wanted : List Table → Option ℕ → ℕ → List Ty
 values_wanted tables None values = []
 values_wanted tables (Some t) values = if nat_eq values (length (column_types tables t)) then column_types tables t else []
 
+-- the faults of values, over the types that they want
 abbrev pub values_faults : (ExprNode → Judged) → List ExprNode → List Ty → List TypeFault
 values_faults judge [] tys = []
 values_faults judge (e ∷ es) [] = (judge e).faults ++ values_faults judge es []
@@ -188,6 +204,7 @@ pub record Ruled : Type 0 where
   pub shown : Known → Known
   pub faults : Known → List TypeFault
 
+-- how many names statements define
 abbrev pub ruled_names : List Ruled → ℕ
 ruled_names [] = 0
 ruled_names (s ∷ ss) = s.names + ruled_names ss
@@ -197,9 +214,11 @@ abbrev pub all_faults : List Ruled → Known → List TypeFault
 all_faults [] known = []
 all_faults (s ∷ ss) known = s.faults known ++ all_faults ss (known ++ s.shown known)
 
+-- a statement that defines one name
 abbrev pub ruled_naming : (Known → Option Ty) → (Known → List TypeFault) → Ruled
 ruled_naming ty faults = record { names = 1; shown = λ known. Some (ty known) ∷ []; faults = faults }
 
+-- a statement that defines none
 abbrev pub ruled_plain : (Known → List TypeFault) → Ruled
 ruled_plain faults = record { names = 0; shown = λ known. []; faults = faults }
 
@@ -219,9 +238,11 @@ ruled_looping name body = record {
   faults = λ known. name known ++ all_faults body (known ++ Some (Some IntTy) ∷ []);
 }
 
+-- the faults of TABLE[KEY]
 abbrev pub cell_faults : List Table → (ExprNode → Judged) → NameNode → ExprNode → List TypeFault
 cell_faults tables judge table key = unknown (table_number tables table.name) table.at ++ placed (is_fitting (key_wanted tables (table_number tables table.name))) (judge key)
 
+-- a statement, from those in its blocks
 abbrev pub rule_step : List Table → List (List ℕ) → StmtNode-F Ruled → Ruled
 rule_step tables names (form.Let name value) = ruled_naming (λ known. (judged names known value).ty) (λ known. twice names (length known) name ++ (judged names known value).faults)
 rule_step tables names (form.Read name table key column default) = ruled_naming (λ known. column_wanted tables (table_number tables table.name) column.name) (λ known.
@@ -251,6 +272,7 @@ abbrev pub names_faults : List (List ℕ) → ℕ → List ColumnNode → List T
 names_faults names index [] = []
 names_faults names index (node ∷ nodes) = twice names index node.name ++ names_faults names (index + 1) nodes
 
+-- the faults of tables, from an index on
 abbrev pub tables_faults : List (List ℕ) → ℕ → List TableNode → List TypeFault
 tables_faults names index [] = []
 tables_faults names index (node ∷ nodes) =
@@ -260,9 +282,11 @@ tables_faults names index (node ∷ nodes) =
 abbrev pub params_known : List ColumnNode → Known
 params_known nodes = map (λ node. Some (Some node.ty)) nodes
 
+-- the faults of a procedure
 abbrev pub proc_faults : List Table → ProcNode → List TypeFault
 proc_faults tables node = names_faults (variables node) 0 node.params ++ all_faults (map (ruled tables (variables node)) node.body) (params_known node.params)
 
+-- the faults of procedures, from an index on
 abbrev pub procs_faults : List Table → List (List ℕ) → ℕ → List ProcNode → List TypeFault
 procs_faults tables names index [] = []
 procs_faults tables names index (node ∷ nodes) = (twice names index node.name ++ proc_faults tables node) ++ procs_faults tables names (index + 1) nodes
@@ -272,6 +296,7 @@ abbrev pub tree_faults : Tree → List TypeFault
 tree_faults tree =
     tables_faults (map (λ node. node.name.name) tree.tables) 0 tree.tables ++ procs_faults (map table_of tree.tables) (map (λ node. node.name.name) tree.procs) 0 tree.procs
 
+-- the fault is one of these
 abbrev pub IsAmong : List TypeFault → TypeFault → Type 0
 IsAmong [] fault = ⊥
 IsAmong (f ∷ fs) fault = (f ≡ fault) ⊎ IsAmong fs fault

@@ -30,9 +30,11 @@ number_of names name = position (bytes_eq name) names
 
 -- ---- tables
 
+-- the column or parameter of a node
 abbrev pub column_of : ColumnNode → Column
 column_of node = record { name = node.name.name; ty = node.ty }
 
+-- the table of a node
 abbrev pub table_of : TableNode → Table
 table_of node = record { name = node.name.name; key = node.key; columns = map column_of node.columns }
 
@@ -40,17 +42,21 @@ table_of node = record { name = node.name.name; key = node.key; columns = map co
 abbrev pub column_names : List Column → List (List ℕ)
 column_names columns = map (λ column. column.name) columns
 
+-- the names of tables
 abbrev pub table_names : List Table → List (List ℕ)
 table_names tables = map (λ table. table.name) tables
 
+-- the number of the table with a name
 abbrev pub table_number : List Table → List ℕ → Option ℕ
 table_number tables name = number_of (table_names tables) name
 
+-- the number of a table's column with a name
 abbrev pub column_number : List Table → ℕ → List ℕ → Option ℕ
 column_number tables t name = option_and_then (λ table. number_of (column_names table.columns) name) (slice_get tables t)
 
 -- ---- variables
 
+-- lists one after another
 abbrev pub in_a_row : List (List (List ℕ)) → List (List ℕ)
 in_a_row [] = []
 in_a_row (names ∷ more) = names ++ in_a_row more
@@ -64,6 +70,7 @@ defined_step (form.If test first second) = in_a_row first ++ in_a_row second
 defined_step (form.For name from to body) = name.name ∷ in_a_row body
 defined_step _ = []
 
+-- the names of the variables that a statement defines, those in its blocks among them
 abbrev pub defined : StmtNode → List (List ℕ)
 defined = fold-StmtNode (List (List ℕ)) defined_step
 
@@ -75,6 +82,7 @@ variables proc = map (λ param. param.name.name) proc.params ++ flat_map defined
 abbrev pub Sight : Type 0
 Sight = List (Option ℕ)
 
+-- the number at an index, where there is one
 abbrev pub number_at : Option (Option ℕ) → Option ℕ
 number_at (Some number) = number
 number_at None = None
@@ -90,9 +98,11 @@ resolve_step names sight (Name name) = option_map Var (seen_number names sight n
 resolve_step names sight (Binary at op l r) = option_and_then (λ a. option_map (λ b. Bin op a b) r) l
 resolve_step names sight (node.Not at e) = option_map expr.Not e
 
+-- an expression over the visible variables, None where it names another
 abbrev pub resolved : List (List ℕ) → Sight → ExprNode → Option Expr
 resolved names sight = fold-ExprNode (Option Expr) (resolve_step names sight)
 
+-- the same of expressions
 abbrev pub resolved_all : List (List ℕ) → Sight → List ExprNode → Option (List Expr)
 resolved_all names sight [] = Some []
 resolved_all names sight (e ∷ es) = option_and_then (λ a. option_map (λ as_. a ∷ as_) (resolved_all names sight es)) (resolved names sight e)
@@ -115,10 +125,12 @@ naming stmt = record { names = 1; count = 1; shown = λ n. Some n ∷ []; stmt =
 abbrev pub plain : (Sight → ℕ → Option Stmt) → Numbered
 plain stmt = record { names = 0; count = 0; shown = λ n. []; stmt = stmt }
 
+-- how many names statements define
 abbrev pub all_names : List Numbered → ℕ
 all_names [] = 0
 all_names (s ∷ ss) = s.names + all_names ss
 
+-- how many variables they define
 abbrev pub variables_in : List Numbered → ℕ
 variables_in [] = 0
 variables_in (s ∷ ss) = s.count + variables_in ss
@@ -132,6 +144,7 @@ in_turn (s ∷ ss) sight n = option_and_then (λ a. option_map (λ as_. a ∷ as
 abbrev pub unseen : ℕ → Sight
 unseen k = replicate k None
 
+-- a statement on a table and a key, where there are both
 abbrev pub cell_by : Option ℕ → Option Expr → (ℕ → Expr → Option Stmt) → Option Stmt
 cell_by table key stmt = option_and_then (λ t. option_and_then (λ k. stmt t k) key) table
 
@@ -154,6 +167,7 @@ looping from to body = record {
   stmt = λ sight n. option_map (λ b. For n from to b) (in_turn body (sight ++ Some n ∷ []) (n + 1));
 }
 
+-- a statement to numbering, from those in its blocks
 abbrev pub number_step : List Table → List (List ℕ) → StmtNode-F Numbered → Numbered
 number_step tables names (form.Let name value) = naming (λ sight n. option_map (λ e. Let n e) (resolved names sight value))
 number_step tables names (form.Read name table key column default) = naming (λ sight n. cell_by (table_number tables table.name) (resolved names sight key)
@@ -181,6 +195,7 @@ abbrev pub numbers_from : ℕ → List ColumnNode → Sight
 numbers_from n [] = []
 numbers_from n (param ∷ params) = Some n ∷ numbers_from (n + 1) params
 
+-- the procedure of a node, None where a name is none of those that are visible
 abbrev pub proc_of : List Table → ProcNode → Option Proc
 proc_of tables proc =
     option_map (λ body. record { name = proc.name.name; params = map column_of proc.params; body = body })

@@ -15,7 +15,7 @@ pub record HasFewOperations (procs : List Proc) : Type 0 where
   pub each : All (λ proc. operations proc.body ≤ MAX_OPS) procs
   pub all : all_operations procs ≤ MAX_ALL_OPS
 
--- a number of operations as it is told: a million stands for all larger ones
+-- a number of operations as it is reported: a million stands for all larger ones
 abbrev pub told : ℕ → ℕ
 told n = if nat_lt n MAX_COUNT then n else MAX_COUNT
 

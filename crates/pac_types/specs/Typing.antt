@@ -29,8 +29,8 @@ pub record IsProcOf (tables : List Table) (node : ProcNode) (proc : Proc) : Type
 abbrev pub HasDistinctColumns : TableNode → Type 0
 HasDistinctColumns node = AreDistinct (map (λ column. column.name.name) node.columns)
 
--- the tree is typed and has this catalogue: the tables all differ by name, and so do the procedures; the catalogue has
--- the tables and procedures of the tree in its order
+-- the tree is typed and has this catalogue: the tables all differ by name, and so do the procedures, and the columns of each
+-- table; the catalogue has the tables and procedures of the tree in its order
 pub record Types (tree : Tree) (catalogue : CatalogueState) : Type 0 where
   pub table_names : AreDistinct (map (λ node. node.name.name) tree.tables)
   pub proc_names : AreDistinct (map (λ node. node.name.name) tree.procs)

@@ -22,11 +22,12 @@ pub data UnrolledSteps : Type 0 where
 
 -- ---- numbers
 
--- how many turns a loop has: none where the second number is at most the first
+-- a whole number that isn't negative, and 0 for a negative one
 abbrev pub natural : ℤ → ℕ
 natural (pos n) = n
 natural (negsuc n) = 0
 
+-- how many turns a loop has: none where the second number is at most the first
 abbrev pub turns : ℤ → ℤ → ℕ
 turns from to = natural (to -ℤ from)
 
@@ -52,6 +53,7 @@ renamed_step names (Var x) = names x
 renamed_step names (Bin op l r) = expr.Bin op l r
 renamed_step names (Not e) = expr.Not e
 
+-- an expression with what its variables stand for, all through
 abbrev pub renamed : Names → Expr → Expr
 renamed names = fold-Expr Expr (renamed_step names)
 
@@ -84,6 +86,7 @@ abbrev pub all_after : List Unrolling → Point → Point
 all_after [] p = p
 all_after (u ∷ us) p = all_after us (u.after p)
 
+-- the steps of statements, before those after them
 abbrev pub in_steps : List Unrolling → Point → UnrolledSteps → UnrolledSteps
 in_steps [] p rest = rest
 in_steps (u ∷ us) p rest = u.steps p (in_steps us (u.after p) rest)
@@ -93,6 +96,7 @@ abbrev pub after_turns : ℕ → List Unrolling → List ℤ → Point → Point
 after_turns x body [] p = p
 after_turns x body (i ∷ is) p = after_turns x body is (all_after body (with_turn x i p))
 
+-- the steps of the turns, before those after them
 abbrev pub in_turns : ℕ → List Unrolling → List ℤ → Point → UnrolledSteps → UnrolledSteps
 in_turns x body [] p rest = rest
 in_turns x body (i ∷ is) p rest = in_steps body (with_turn x i p) (in_turns x body is (all_after body (with_turn x i p)) rest)
@@ -128,6 +132,7 @@ unroll_conditional x e first second = record {
 abbrev pub unroll_loop : ℕ → List ℤ → List Unrolling → Unrolling
 unroll_loop x turn_numbers body = record { after = after_turns x body turn_numbers; steps = in_turns x body turn_numbers }
 
+-- a statement to unrolling, from those in its blocks
 abbrev pub unroll_step : Stmt-F Unrolling → Unrolling
 unroll_step (Let x e) = unroll_one (kind.Let x e)
 unroll_step (Read x t k c d) = unroll_one (kind.Read x t k c d)

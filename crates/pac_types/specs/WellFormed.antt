@@ -27,6 +27,7 @@ abbrev pub column_types_of : Option Table → List Ty
 column_types_of None = []
 column_types_of (Some table) = types table.columns
 
+-- the types of the columns of the table with a number, none where there is no such table
 abbrev pub column_types : List Table → ℕ → List Ty
 column_types tables t = column_types_of (slice_get tables t)
 
@@ -81,6 +82,7 @@ well_formed_loop x body = record {
   after = λ scope. if_so (is_some (in_order body (with_var (without (any_defines body) scope) x IntTy))) (without (λ y. y == x || any_defines body y) scope);
 }
 
+-- the check of a statement, from those of the statements in its blocks
 abbrev pub check_step : List Table → Stmt-F Check → Check
 check_step tables (Let x e) = defining x (λ scope. option_map (with_var scope x) (type_in scope e))
 check_step tables (Read x t k c default) = defining x (λ scope.
@@ -94,6 +96,7 @@ check_step tables (AbortIf e) = well_formed_plain (λ scope. if_so (is_bool (typ
 check_step tables (If x e first second) = well_formed_conditional x e first second
 check_step tables (For x from to body) = well_formed_loop x body
 
+-- the check of a statement
 abbrev pub check : List Table → Stmt → Check
 check tables = fold-Stmt Check (check_step tables)
 

@@ -59,12 +59,12 @@ fn check_procs(
 ///
 /// # Errors
 ///
-/// [`TypeError::Fault`] exactly where the tree isn't typed: its first fault, the one with the least offset. A name stands
+/// [`TypeError::Fault`] only where the tree isn't typed: its first fault, the one with the least offset. A name stands
 /// twice in its space, or it isn't that of a table, of a column of its table or of a visible variable; a `put` has
 /// another number of values than its table has columns; an expression hasn't the type that its position wants. Tables and
 /// procedures have a space each, the columns of a table have one, and the parameters and variables of a procedure have
 /// one together. A parameter is visible in the whole procedure, a variable after its statement, to the end of the
-/// innermost block round it. [`TypeError::NoMemory`].
+/// innermost block round it. [`TypeError::NoMemory`] may come instead, and also where the tree is typed.
 pub fn check(alloc: Global, tree: Tree) -> Result<Catalogue, TypeError>
     requires { IsTree tree }
     ensures ok { IfOk result (λ catalogue. Types tree catalogue) }

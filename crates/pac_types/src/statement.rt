@@ -5,8 +5,10 @@ use pac_base::{Exact, Listed, NoMemory, listed};
 use pac_value::{Expr, Value};
 use std::alloc::Global;
 
+/// Expressions, in order.
 pub type Exprs = Listed<Expr>;
 
+/// Statements, in order.
 pub type Stmts = Listed<Stmt>;
 
 /// A statement. Variables, tables and columns have numbers: the parameters of a procedure are its first variables, and

@@ -10,6 +10,7 @@ pub struct Column {
     pub ty: Ty,
 }
 
+/// The columns of a table, or the parameters of a procedure, in order.
 pub type Columns = Listed<Column>;
 
 /// A table: its name, the type of its key, and its columns.

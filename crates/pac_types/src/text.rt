@@ -55,8 +55,8 @@ impl CatalogueFault {
 ///
 /// # Errors
 ///
-/// `Fault` exactly where the text has no catalogue: the first fault of the text, or where that is read, of its names and
-/// types; it has one.
+/// `Fault` only where the text has no catalogue: the first fault of the text, or where that is read, of its names and types.
+/// `NoMemory` may come instead, and also where there is a catalogue.
 pub fn read_catalogue(alloc: Global, text: &[u8]) -> Result<Catalogue, CatalogueError>
     ensures ok { IfOk result (HasCatalogue text.now) }
     ensures only { (catalogue : CatalogueState) → HasCatalogue text.now catalogue → Only result catalogue }

@@ -16,7 +16,7 @@ pub record Undoable : Type 0 where
 abbrev pub undoable_code : Coded Undoable
 undoable_code = code_by (ℕ × (Tables × Tables)) (coded× coded_ℕ (coded× tables_code tables_code)) (λ u. (u.tables, (u.opening, u.current))) (λ p. record { tables = p.0; opening = p.1.0; current = p.1.1 }) (λ u. refl)
 
--- each of the first tables, as many as that, has the same rows
+-- the first `count` tables have the same rows
 abbrev pub AreSameIn : ℕ → Tables → Tables → Type 0
 AreSameIn count tables others = (cell : Cell) → cell.0 < count → get tables cell ≡ get others cell
 
@@ -28,7 +28,7 @@ HasOpening undoable count rows = (count ≡ undoable.tables) × AreSameIn undoab
 abbrev pub IsOpening : Undoable → ℕ → Tables → Type 0
 IsOpening undoable count rows = (count ≡ undoable.tables) × (rows ≡ undoable.opening)
 
--- each row stands in one of the first tables, as many as that
+-- each row stands in one of the first `count` tables
 abbrev pub HasRowsIn : ℕ → Tables → Type 0
 HasRowsIn count tables = (cell : Cell) → IsSome (get tables cell) → cell.0 < count
 

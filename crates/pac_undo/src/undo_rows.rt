@@ -105,8 +105,9 @@ impl<R: Rows> UndoRows<R> {
 
     /// Whether other tables are as many and have the rows of the opening.
     ///
-    /// It lists the rows of one table after another, those of now and the others, and looks each key up three times at most:
-    /// among the before-images, in the tables of now and in the others. No row is copied. Where a row differs it goes no further.
+    /// It lists the rows of one table after another, those of now and the others, and then goes through the cells of the
+    /// before-images. Each time it meets a key it looks it up three times at most: among the before-images, in the tables of now
+    /// and in the others. No row is copied. Where a row differs it goes no further.
     ///
     /// # Errors
     ///

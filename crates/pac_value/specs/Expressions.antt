@@ -85,7 +85,7 @@ abbrev pub is_int : ℤ → Bool
 is_int (pos n) = nat_lt n (2 ^ 63)
 is_int (negsuc n) = nat_lt n (2 ^ 63)
 
--- a whole number as an int
+-- a whole number as an int, Overflow where it is none
 abbrev pub checked : ℤ → Result Value Trap
 checked z = if is_int z then Ok (Int z) else Err Overflow
 
@@ -97,7 +97,7 @@ quotient = int_div
 abbrev pub remainder : ℤ → ℤ → ℤ
 remainder a b = a -ℤ b *ℤ quotient a b
 
--- nothing is divided by zero
+-- what a division gives: DivZero where the divisor is zero, and else the number as an int
 abbrev pub divided : ℤ → ℤ → Result Value Trap
 divided divisor z = if int_eq divisor (pos 0) then Err DivZero else checked z
 
@@ -164,7 +164,7 @@ value_step env (Var x) = Ok (unwrap_or (get env x) (Truth false))
 value_step env (Bin op l r) = l >>= λ a. joined op a r
 value_step env (Not e) = e >>= λ a. Ok (negated a)
 
--- the value of an expression over unbounded whole numbers, or the trap that stops it
+-- the value of an expression, or the first trap: each operator computes over unbounded whole numbers, and its result is checked
 abbrev pub value : Expr → Values → Result Value Trap
 value expr env = fold-Expr (Result Value Trap) (value_step env) expr
 

@@ -15,6 +15,7 @@ calculates_step (Var x) = false
 calculates_step (Bin op l r) = is_arithmetic op
 calculates_step (Not e) = false
 
+-- an expression is an operator of arithmetic with its operands
 abbrev pub calculates : Expr → Bool
 calculates = fold-Expr Bool calculates_step
 
@@ -25,6 +26,7 @@ tests_step (Var x) = false
 tests_step (Bin op l r) = not (is_arithmetic op)
 tests_step (Not e) = true
 
+-- an expression is any other operator with its operands
 abbrev pub tests : Expr → Bool
 tests = fold-Expr Bool tests_step
 

@@ -1,4 +1,4 @@
--- Which variables are visible, and which types their positions want.
+-- Which variables are visible, and which types keys, columns and tests want.
 use Rattle.std.specs.Prelude.{ℕ, Bool, true, false, ◌&&◌, ◌==◌, nat_le, if◌then◌else◌, List, [], ◌∷◌, Option, Some}
 use Rattle.pac_value.specs.declared.limits.TheConstants.{MAX_COLUMNS}
 use Rattle.pac_value.specs.declared.values.Ty.{Ty}

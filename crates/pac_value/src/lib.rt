@@ -1,5 +1,5 @@
 //! The data of every layer: names, texts, values, keys and rows, expressions and their evaluation, and cells of tables.
-//! Only copies, maps and texts that grow take memory.
+//! Memory is taken only by copies of environments, expressions and rows, by [`Env::set`], and by calls that append to a text.
 //!
 //! - [`Name`]: the name of a table, a column, a procedure or a variable, at most 32 bytes. [`Text`]: at most 64
 //!   printable bytes.
@@ -27,7 +27,8 @@
 //! [`eval`] requires a well-typed expression. `specs/Expressions.antt` defines its value over unbounded whole numbers:
 //! a result outside 64 bits is the trap Overflow, a zero divisor the trap DivZero, `/` rounds toward zero, and `a % b`
 //! is the remainder of that. `specs/State.antt` says what the tables of a database are: one finite map from cells (a
-//! table's number and a key) to rows. A call that is out of memory leaves what it was given unchanged.
+//! table's number and a key) to rows. [`Env::set`] changes nothing where it is out of memory; a call that appends to a text
+//! may then have appended a part.
 #![tactic(auto)]
 
 mod env;

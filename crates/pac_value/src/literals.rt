@@ -41,7 +41,7 @@ fn push_quoted(out: &mut Vec<u8>, text: &Text) -> Result<(), NoMemory>
 ///
 /// # Errors
 ///
-/// `NoMemory` alone, as of [`push_value`].
+/// `NoMemory` alone, as for [`push_value`].
 pub fn push_count(out: &mut Vec<u8>, count: u64) -> Result<(), NoMemory>
     ensures { OnOk result (Grew out.old.items out.new.items (decimal count)) }
 {
@@ -71,7 +71,7 @@ pub fn push_value(out: &mut Vec<u8>, value: &Value) -> Result<(), NoMemory>
 ///
 /// # Errors
 ///
-/// `NoMemory` alone, as of [`push_value`].
+/// `NoMemory` alone, as for [`push_value`].
 pub fn push_key(out: &mut Vec<u8>, key: &Key) -> Result<(), NoMemory>
     ensures { OnOk result (Grew out.old.items out.new.items (key_text key.now)) }
 {
@@ -92,7 +92,7 @@ fn push_further(out: &mut Vec<u8>, value: &Value) -> Result<(), NoMemory>
 ///
 /// # Errors
 ///
-/// `NoMemory` alone, as of [`push_value`].
+/// `NoMemory` alone, as for [`push_value`].
 pub fn push_values(out: &mut Vec<u8>, values: &[Value]) -> Result<(), NoMemory>
     ensures { OnOk result (Grew out.old.items out.new.items (values_text values.now)) }
 {

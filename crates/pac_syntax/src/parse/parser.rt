@@ -67,7 +67,7 @@ impl<'a> Parser<'a> {
         SyntaxError::Fault(Fault { at, kind })
     }
 
-    // Takes this word or symbol and answers its offset, where it comes next.
+    // Takes this word or symbol and returns its offset, where it comes next.
     fn takes(&mut self, wanted: Token) -> Option<usize>
         ensures end { self.new.end ≡ self.old.end }
         ensures operators { self.new.operators ≡ self.old.operators }

@@ -78,7 +78,7 @@ impl Scope {
         Err(TypeFault { at, kind })
     }
 
-    /// The next name gets a variable, which has the answered number.
+    /// The next name gets a variable, whose number is returned.
     pub fn define(&mut self, ty: Ty) -> Result<u16, AllocError>
         requires { self.old.next < 2 ^ 16 }
         ensures number { IfOk result (λ number. number ≡ self.old.next) }
@@ -90,7 +90,7 @@ impl Scope {
         Ok(number)
     }
 
-    /// A variable without a name, which has the answered number.
+    /// A variable without a name, whose number is returned.
     pub fn hide(&mut self) -> u16
         requires { self.old.next < 2 ^ 16 }
         ensures number { result ≡ self.old.next }
