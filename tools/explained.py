@@ -3,7 +3,7 @@
 
     tools/explained.py [--text] < CATALOGUE
 
-It takes catalogues that the program accepts, and refuses no other. The answer is computed from what docs/LANGUAGE.md and
+It takes catalogues that the program accepts, and doesn't check that they are such. The answer is computed from what docs/LANGUAGE.md and
 docs/COMMANDS.md say, by brute force and with nothing of the program: whether two operations conflict is asked of each pair, and
 what depends on what by any number of steps is found by joining pairs until nothing changes. So it is slow on purpose.
 """

@@ -35,10 +35,11 @@ calls() { awk -v lines="$1" 'BEGIN { for (i = 1; i <= lines; i++) print "call Pu
 
 # Sees that the acknowledged transactions of `replies` are recovered.
 whole() {
-    local told rows
+    local told rows status=0
     told=$(head -n "$(wc -l < replies)" replies | awk '$1 == "committed" { told = $2 } END { print told + 0 }')
-    rows=$("$program" recover 2> line | awk '/^table T/ { print $3 }')
-    if [ "${rows:-0}" -ge "$told" ]; then echo "  $told acknowledged, ${rows:-0} recovered"; else
+    "$program" recover > dump 2> line || status=$?
+    rows=$(awk '/^table T/ { print $3 }' dump)
+    if [ "$status" = 0 ] && [ "${rows:-0}" -ge "$told" ]; then echo "  $told acknowledged, ${rows:-0} recovered"; else
         echo "  $told acknowledged, ${rows:-none} recovered, which is wrong: $(head -1 line)"
         wrong=1
     fi
@@ -62,11 +63,12 @@ if unshare -rm true 2> /dev/null; then
         mount -t tmpfs -o size=256k none full && cd full || exit 99
         echo "$2" | "$1" init && "$1" run --batch 8 < /dev/stdin > ../replies 2> ../line
         echo $? > ../status
-        "$1" recover > ../dump 2> ../recovered' bash "$program" "$catalogue" < <(calls 20000)
+        "$1" recover > ../dump 2> ../recovered
+        echo $? > ../recover_status' bash "$program" "$catalogue" < <(calls 20000)
     compared "a disk of 256 KiB" 8 "disk fault" "$(cat status)" line
     told=$(head -n "$(wc -l < replies)" replies | awk '$1 == "committed" { told = $2 } END { print told + 0 }')
     rows=$(awk '/^table T/ { print $3 }' dump)
-    if [ "${rows:-0}" -ge "$told" ]; then echo "  $told acknowledged, $rows recovered"; else
+    if [ "$(cat recover_status)" = 0 ] && [ "${rows:-0}" -ge "$told" ]; then echo "  $told acknowledged, $rows recovered"; else
         echo "  $told acknowledged, ${rows:-none} recovered, which is wrong: $(head -1 recovered)"
         wrong=1
     fi
@@ -106,9 +108,10 @@ whole
 cd ..
 
 # A kill at a random moment of `init` and `recover`.
+echo "$catalogue" > text
 for round in $(seq 20); do
     rm -rf store && mkdir store && cd store || exit 1
-    (echo "$catalogue" | exec "$program" init 2> line) &
+    "$program" init < ../text 2> line &
     sleep "0.00$((RANDOM % 10))"
     kill -9 $! 2> /dev/null
     wait $! 2> /dev/null

@@ -14,12 +14,21 @@ for word in "$@"; do
     case $word in
     --skip-build) skip_build=yes ;;
     --skip-tests) skip_tests=yes ;;
-    *) sed -n '2,8s/^# \{0,1\}//p' "$0"; exit 1 ;;
+    *) sed -n '2,8s/^# \{0,1\}//p' tools/readme_blocks.sh; exit 1 ;;
     esac
 done
 
 folder=$(mktemp -d)
-trap 'rm -rf "$folder"' EXIT
+exec 3>&1
+i=0
+# A command that fails ends the script where it stands, also within a block.
+ended() {
+    status=$?
+    if [ "$status" != 0 ]; then { cat "$folder/$i.out"; echo "block $i failed"; } >&3 2> /dev/null; fi
+    rm -rf "$folder"
+    exit "$status"
+}
+trap ended EXIT
 
 # Block N is N.sh, and what has to come in its output N.text.
 awk -v folder="$folder" '
@@ -36,7 +45,7 @@ for ((i = 1; ; i++)); do
     sed 's/^/    /' "$block"
     if [ -n "$skip_build" ] && grep -q 'rt run' "$block"; then echo "left out"; continue; fi
     if [ -n "$skip_tests" ] && grep -q 'try_tests' "$block"; then echo "left out"; continue; fi
-    . "$block" > "$folder/$i.out" 2>&1 || { cat "$folder/$i.out"; echo "block $i failed"; exit 1; }
+    . "$block" > "$folder/$i.out" 2>&1
     cat "$folder/$i.out"
     if [ -e "$folder/$i.text" ]; then
         awk -v block="$i" '

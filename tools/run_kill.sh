@@ -1,13 +1,13 @@
 #!/bin/sh
 # Runs the bank's store, kills the run by SIGKILL at a random moment, and sees that each transaction whose reply was written
-# is recovered, with all in front of it and none left out. It says so of each round, and ends with 1 at the first that fails.
+# is recovered, with all before it and none left out. It says so of each round, and ends with 1 at the first that fails.
 #
 #     tools/run_kill.sh PROGRAM [ROUNDS [LINES [SECONDS]]]
 #
 # A round has LINES deposits, and is killed within SECONDS.
 set -eu
 
-program=$(realpath "$1")
+program=$(realpath "${1:?usage: tools/run_kill.sh PROGRAM [ROUNDS [LINES [SECONDS]]]}")
 rounds=${2:-50}
 lines=${3:-10000}
 seconds=${4:-2}
@@ -32,18 +32,20 @@ for round in $(seq "$rounds"); do
     run=$!
     sleep "$(awk -v seed="$$$round" -v most="$seconds" 'BEGIN { srand(seed); print rand() * most }')"
     kill -9 "$run" 2> /dev/null || true
-    wait "$run" 2> /dev/null || true
+    status=0
+    wait "$run" 2> /dev/null || status=$?
+    if [ "$status" = 137 ]; then end=killed; else end="ended before the kill"; fi
 
     # A reply is a whole line. The last one may be cut.
     told=$(head -n "$(wc -l < replies)" replies | awk '$1 == "committed" { told = $2 } END { print told + 0 }')
     "$program" recover > dump
-    awk -v round="$round" -v told="$told" '
+    awk -v round="$round" -v told="$told" -v end="$end" '
         /^table / { table = $2; next }
         table == "Current" { found++; if ($1 != found || $2 != "(1)") wrong = 1 }
         table == "Stats" { counted = $2 }
         END {
             right = !wrong && found + 0 >= told && (found == 0 || counted == "(" found ")")
-            print "round " round ": " told " acknowledged, " found + 0 " recovered" (right ? "" : ", which is wrong")
+            print "round " round ", " end ": " told " acknowledged, " found + 0 " recovered" (right ? "" : ", which is wrong")
             exit !right
         }' dump
 done

@@ -1,4 +1,4 @@
-// Lets each sync of a file take as long as on a disk that is slower: SLOW_SYNC microseconds more. It is loaded before the C library; see
+// Makes each sync of a file take SLOW_SYNC microseconds longer, as on a slower disk. It is loaded before the C library; see
 // tools/commit_rates.
 #define _GNU_SOURCE
 #include <stdlib.h>

@@ -4,8 +4,8 @@
     tools/stored.py FOLDER
 
 `answer(log, a, b)` takes the bytes of the three files, and gives the status, the output and the line on standard error. The
-catalogue is read by tools/explained.py, which takes texts that are accepted, or whose braces and words are no catalogue's: a text
-that is refused for a type or a name isn't found out. What the transactions leave is computed by tools/executed.py.
+catalogue is read by tools/explained.py, which notices a text that has no catalogue's form, but not one that is refused for a type or
+a name. What the transactions leave is computed by tools/executed.py.
 """
 import os
 import sys

@@ -111,7 +111,7 @@ for kind in folder pipe link device; do
         folder) mkdir "$name" ;;
         pipe) mkfifo "$name" ;;
         link) ln -s "../$name" "$name" ;;
-        device) mknod "$name" c 1 5 2> ../errors || { mv "../$name" . && continue; } ;;
+        device) mknod "$name" c 1 5 2> ../errors || { mv "../$name" .; echo "a device as $name isn't tried: $(cat ../errors)"; continue; } ;;
         esac
         for command in run recover; do ends 8 "$command" < /dev/null; done
         rm -rf "$name"

@@ -4,10 +4,10 @@
 #     tools/times.sh replay|input|parts|log|slots|runs|committed|rows|pieces|shares|workers|restarts|stream
 #
 # `replay`, `input`, `runs`, `workers` and `stream` time the program, which is $PACMAN or crates/pacman/out/pacman, and `committed`, `shares`
-# and `restarts` count its instructions. The others time pac_bench, which is $PAC_BENCH or crates/pac_bench/out/pac_bench, as
+# and `restarts` count its instructions. The others time pac_bench, and `pieces` counts its instructions; it is $PAC_BENCH or crates/pac_bench/out/pac_bench, as
 # `(cd crates/pac_bench && rt run -- copy 1)` makes it. All files are made in a new folder of the current directory, which
 # is removed: its disk is what `log`, `slots` and `runs` time.
-set -eu
+set -eu -o pipefail
 top=$(cd "$(dirname "$0")/.." && pwd)
 pacman=$(realpath "${PACMAN:-$top/crates/pacman/out/pacman}")
 bench=$(realpath -m "${PAC_BENCH:-$top/crates/pac_bench/out/pac_bench}")
@@ -20,7 +20,7 @@ trap 'rm -rf "$folder"' EXIT
 folder=$(realpath "$folder")
 cd "$folder"
 
-# A command, what it prints but for its output, and its time.
+# Prints $1, runs the command after it, and prints the time.
 timed() {
     echo "$1"
     shift
@@ -29,11 +29,11 @@ timed() {
 
 # A command's instructions, as valgrind counts them, go to the file `count`, and what it prints to `printed`.
 instructions() {
-    valgrind --tool=callgrind --callgrind-out-file=/dev/null "$@" > printed 2> counted
+    valgrind --tool=callgrind --callgrind-out-file=/dev/null "$@" > printed 2> counted || { cat counted >&2; exit 1; }
     sed -n 's/.*Collected : *//p' counted > count
 }
 
-# A command, what it prints but for its output, and its instructions.
+# Prints $1, runs the command after it, and prints its output and its instructions.
 counted() {
     echo "$1"
     shift
@@ -105,14 +105,13 @@ run_with() { "$pacman" "$2" --workers "$1" < "$3" > /dev/null; }
 
 run_replay() { "$pacman" replay < "$1" > /dev/null; }
 
-# The time and the most memory of a command, by its words, whose input is a file.
+# The time and the most memory of a command, whose input is the file $1. A child of this shell would count its memory too, so
+# GNU time has it.
 memory() {
-    python3 -c 'import resource, subprocess, sys, time
-begun = time.perf_counter()
-with open(sys.argv[1], "rb") as given:
-    subprocess.run(sys.argv[2:], stdin=given, stdout=subprocess.DEVNULL)
-peak = resource.getrusage(resource.RUSAGE_CHILDREN).ru_maxrss
-print(f"  {time.perf_counter() - begun:.2f} s, {peak} kB")' "$2" "$pacman" $1
+    local input=$1
+    shift
+    command time -f '  %e s, %M kB' -o used "$@" < "$input" > /dev/null
+    cat used
 }
 
 case $section in
@@ -133,12 +132,12 @@ replay)
 input)
     script 1000000 1000 > million
     (printf -- ---; head -c 67108861 /dev/zero | tr '\0' '\n') > longest
-    for name in million longest; do echo "replay of $name"; memory replay "$name"; done
+    for name in million longest; do echo "replay of $name"; memory "$name" "$pacman" replay; done
     head -2 "$add" > catalogue
     "$pacman" init < catalogue
     head -c 67108864 /dev/zero | tr '\0' x > line
     echo "a run whose input is one line of 67,108,864 bytes"
-    memory run line
+    memory line "$pacman" run
     ;;
 parts)
     for part in write read; do timed "20,000 bodies of 1,024 calls: $part" "$bench" "$part" 20000; done
@@ -154,7 +153,7 @@ shares)
     # the compiler put into its callers has no line of its own: opening pieces, with their accesses and pairs, is a part of
     # `next_ready`, and finding the sets of a batch a part of `load`.
     for workers in 1 2; do
-        valgrind --tool=callgrind --callgrind-out-file=profile "$pacman" stress 10000 --workers "$workers" > printed 2> counted
+        valgrind --tool=callgrind --callgrind-out-file=profile "$pacman" stress 10000 --workers "$workers" > printed 2> counted || { cat counted >&2; exit 1; }
         pieces=$(sed -n 's/^pieces //p' printed)
         echo "instructions a piece, of $pieces pieces, by $workers"
         callgrind_annotate --inclusive=yes --threshold=100 profile | tr -d , | awk -v pieces="$pieces" '
@@ -169,13 +168,21 @@ log)
     for size in 33 1545; do echo "20,000 synced writes of $size bytes"; synced "$size" 20000; done
     rm -f pac_bench.log
     "$bench" fill 146
-    timed "a log of 211 MB: scan" "$bench" scan 146
+    echo "a log of 211 MB: scan"
+    memory /dev/null "$bench" scan 146
     rm -f pac_bench.log
-    "$bench" fill 186 || true
+    if "$bench" fill 186; then
+        echo "the log should be full" >&2
+        exit 1
+    fi
     ;;
 slots)
-    "$bench" save 499880 || true
-    timed "a checkpoint of 499,879 rows: save" "$bench" save 499879
+    if "$bench" save 499880; then
+        echo "the checkpoint should be too large" >&2
+        exit 1
+    fi
+    echo "a checkpoint of 499,879 rows: save"
+    memory /dev/null "$bench" save 499879
     ;;
 runs)
     head -2 "$add" > catalogue
@@ -193,7 +200,9 @@ runs)
 1024 1000000 22537 976
 END
     echo "recover of a million transactions"
-    memory recover /dev/null
+    memory /dev/null "$pacman" recover
+    echo "a run that restarts over them"
+    memory /dev/null "$pacman" run
     ;;
 committed)
     head -2 "$add" > catalogue
@@ -242,14 +251,14 @@ stream)
         "$pacman" init < catalogue
         for _ in $(seq "$runs"); do "$pacman" run --batch 1024 < lines > replies; done
         echo "$((runs * 2850000)) calls, a log of $(wc -c < pacman.log) bytes"
-        for workers in 1 4; do echo " recover by $workers"; memory "recover --workers $workers" /dev/null; done
+        for workers in 1 4; do echo " recover by $workers"; memory /dev/null "$pacman" recover --workers "$workers"; done
     done
     ;;
 rows)
     for part in few few_limited many many_limited; do timed "5,000 times 1,000 transactions: $part" "$bench" "$part" 5000; done
     ;;
 *)
-    sed -n '2,9s/^# \{0,1\}//p' "$0"
+    sed -n '2,9s/^# \{0,1\}//p' "$top/tools/times.sh"
     exit 1
     ;;
 esac

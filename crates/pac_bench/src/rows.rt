@@ -53,7 +53,7 @@ pub fn filled(
     Ok(rows)
 }
 
-// Puts these records `rounds` times.
+// Puts these records `count` times.
 fn put_often(
     alloc: Global,
     cat: &Catalogue,

@@ -109,7 +109,7 @@ fn what_they_are_made_of_is_copied(rt: HostRuntime) -> Result<(), Fail> {
     Ok(())
 }
 
-// Two lists, and whether they are the same.
+// A list, and whether it is 1, -2, 3.
 const LISTS: &[(&[i64], bool)] = &[
     (&[1, -2, 3], true),
     (&[1, -2], false),

@@ -1,4 +1,4 @@
-// What tells a core's job, and cores that begin it anew.
+// How a core recognizes its job, and cores that begin a job anew.
 ghost use Rattle.std.specs.Prelude.{◌≡◌, false, IfSome, IsTrue};
 ghost use Rattle.std.specs.FinMap.{empty};
 ghost use Rattle.pac_commute.specs.Loads.{next_in_job};

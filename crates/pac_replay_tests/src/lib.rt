@@ -1,9 +1,9 @@
 //! Tests of the replay, from scripts to the tables that it leaves: where batches are cut, what the pieces of procedures are
-//! and touch, in which order they are handed out, and that every order leaves what serial execution does. It has no calls of
+//! and touch, in which order they are handed out, and that orders taken at random leave what serial execution does. It has no calls of
 //! its own.
 //!
-//! It stands beside `pac_tests`, on the crates of the replay alone, so that it waits for no command. Each function owns at most
-//! one thing that has memory, and lends it to the one that looks at it: so its proof is short.
+//! It stands beside `pac_tests`, on the crates of the replay alone, so that it waits for no command. Most functions
+//! own one thing that has memory and lend it on, which keeps their proofs short.
 #![tactic(auto)]
 
 #[cfg(test)]

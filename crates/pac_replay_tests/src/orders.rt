@@ -1,4 +1,4 @@
-// Every order in which pieces may be taken, finished and given back leaves what serial execution does.
+// Random orders in which pieces are taken, finished and given back leave what serial execution does.
 ghost use Rattle.std.specs.Prelude.{◌<◌, length};
 ghost use Rattle.pac_types.specs.Fits.{FitsCatalogue};
 ghost use Rattle.pac_types.specs.OperationLimits.{HasFewOperations};
@@ -137,7 +137,7 @@ fn give_one_back<R: Rows>(core: &mut Core<R>, results: &mut Vec<Done>, random: &
     Turn::GoesOn
 }
 
-// One event. Of 64, some 20 to 50 are takes, 4 give a piece back and 1 reclaims all.
+// One event. Of 64, 15 to 45 are takes, 4 give a piece back and 1 reclaims all.
 fn one_turn<R: Rows>(
     alloc: Global,
     core: &mut Core<R>,

@@ -162,7 +162,7 @@ fn goes<R: Rows>(
     }
 }
 
-/// How many steps, from the first on, go so.
+/// How many steps go as expected before the first that doesn't.
 pub(crate) fn count_right<R: Rows>(
     alloc: Global,
     core: &mut Core<R>,

@@ -255,7 +255,7 @@ fn ends_so<R: Rows>(core: Core<R>, case: &Case) -> bool {
     }
 }
 
-// How many steps, from the first on, go as worked, and whether the tables at the end are so.
+// How many steps go as worked before the first that doesn't, and whether the tables at the end are so.
 fn found_in(alloc: Global, case: &Case) -> Option<(usize, bool)> {
     let mut core = script_core(alloc, case.catalogue, case.lines)?;
     let count = count_in(alloc, &mut core, case);

@@ -77,7 +77,7 @@ pub(crate) fn has_ended(status: u8, streams: &Streams, end: (u8, &str, &str)) ->
         && streams.errors.inner.bytes() == end.2.as_bytes()
 }
 
-// Whether the word ends with this status, output and line over the streams.
+// Whether the command ends with this status, output and line over the streams.
 fn knows<D: Disk>(
     alloc: Global,
     word: &str,
@@ -124,7 +124,7 @@ fn step_ends(
     ends(alloc, step.0, input, devices, step.2)
 }
 
-// How many steps, from the first on, end so.
+// How many steps end as expected before the first that doesn't.
 fn count_right(alloc: Global, devices: &mut Devices<MemDisk>) -> Result<usize, AllocError> {
     let mut count = 0usize;
     for step in STEPS {

@@ -118,7 +118,7 @@ fn a_file_that_another_wrote_meanwhile_is_left_alone(rt: HostRuntime) {
     assert!(rt; still_has_its_byte(&recording));
 }
 
-// How many of three syncs of a written file succeed; one counts as none from the first that fails on.
+// Whether a file is written, and how many of three syncs of it succeed.
 fn syncs_before_the_fault(recording: &Recording<'_>) -> (bool, u32) {
     let mut disk = FileDisk::new(recording, LOG);
     let is_written = disk.write_at(0, b"a") == Ok(());

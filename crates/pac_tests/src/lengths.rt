@@ -137,7 +137,7 @@ const LINES: &str = "call End()\nflush\ncall End()\n";
 
 const END: (u8, &str, &str) = (10, "committed 253237\n", "log full 268435469\n");
 
-// Whether the words are those of a run that ends so.
+// Whether a run with these arguments ends as `END` says.
 fn run_ends<H: Threads + Wait + Sync>(
     rt: &H,
     alloc: Global,
@@ -158,7 +158,7 @@ fn run_ends<H: Threads + Wait + Sync>(
     has_ended(status, streams, END)
 }
 
-// How long the log is after a run that ends so.
+// How long the log is after such a run.
 fn len_when_full<H: Threads + Wait + Sync>(
     rt: &H,
     alloc: Global,

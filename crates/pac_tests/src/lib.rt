@@ -1,7 +1,7 @@
 //! Tests that no case can be: files of the system, streams that give or take little at a time, the calls that no command
 //! makes, devices that are too long to be held, and the largest sizes. It has no calls of its own.
 //!
-//! Each function owns at most one thing that has memory, and lends it to the one that looks at it: so its proof is short.
+//! Most functions own one thing that has memory and lend it on, which keeps their proofs short.
 #![tactic(auto)]
 
 #[cfg(test)]

@@ -114,7 +114,7 @@ fn answers(reader: &mut LineReader, source: &mut Typed, wanted: Answer) -> bool 
     }
 }
 
-// How many calls, from the first on, answer so.
+// How many calls answer as expected before the first that doesn't.
 fn count_right(reader: &mut LineReader, source: &mut Typed, calls: &[Answer]) -> usize {
     let mut count = 0usize;
     for &wanted in calls {

@@ -12,7 +12,7 @@ pub struct Recorder {
     kept: RefCell<Kept>,
     // How many bytes one call moves at most.
     most: usize,
-    // The number of the sync that fails, from 1 on.
+    // The number of the sync that fails, from 1 on; with 0 none does.
     failing: u32,
 }
 

@@ -77,7 +77,7 @@ impl Gate for Passed {
     }
 }
 
-/// Holds the first that comes until another has come with another piece, for at most 1,000,000 turns.
+/// Holds the first that comes until another comes, for at most 1,000,000 turns.
 #[derive(Drop)]
 pub(crate) struct TwoAtOnce {
     came: AtomicU64,

@@ -1,4 +1,4 @@
-// The largest graph, and the largest input.
+// The largest graph.
 use pac_base::NoMemory;
 use pac_graph::{Digraph, MAX_NODES};
 use pac_outside::{MemSource, ReadError, read_up_to};

@@ -127,7 +127,7 @@ fn step_ends(alloc: Global, recorder: &Recorder, step: &Step) -> Result<bool, Al
     Ok(ends(alloc, step.0, input, &mut devices, step.2)? && recorder.has_called(step.3))
 }
 
-// How many steps, from the first on, end so.
+// How many steps end as expected before the first that doesn't.
 fn count_right(alloc: Global, recorder: &Recorder) -> Result<usize, AllocError> {
     let mut count = 0usize;
     for step in STEPS {

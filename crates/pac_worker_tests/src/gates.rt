@@ -6,7 +6,7 @@ use std::alloc::Global;
 use std::sync::atomic::{AtomicU64, Ordering};
 use std::thread;
 
-/// Holds the first that enters until another has entered with another piece, for at most 1,000,000 turns.
+/// Holds the first that enters until another enters, for at most 1,000,000 turns.
 #[derive(Drop)]
 pub struct Meeting {
     first: AtomicU64,

@@ -1,6 +1,7 @@
 //! Tests of workers, of what no clause says: that threads run, wait, wake each other and end. It has no calls of its own.
 //!
-//! The machine that they replay is one of chains, in which each piece waits for the one before it.
+//! Most replay a machine of chains, in which each piece waits for the one before it; the others execute batches over a plan of
+//! one table.
 #![tactic(auto)]
 
 #[cfg(test)]
