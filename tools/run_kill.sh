@@ -9,7 +9,7 @@ set -eu
 
 program=$(realpath "${1:?usage: tools/run_kill.sh PROGRAM [ROUNDS [LINES [SECONDS]]]}")
 rounds=${2:-50}
-lines=${3:-10000}
+lines=${3:-300000}
 seconds=${4:-2}
 catalogue=$(realpath "$(dirname "$0")/../crates/pac_examples/data/bank.catalogue")
 
