@@ -7,8 +7,9 @@ use pac_check::{SaveError, SlotError};
 use pac_entry::EntryError;
 use pac_flat::FlatError;
 use pac_log::{CreateError, LogError, PrepareError};
-use pac_outside::Failed;
-use pac_serial::ExecError;
+use pac_outside::{Failed, ReadError};
+use pac_script::ScriptError;
+use pac_serial::{AllError, ExecError};
 use pac_types::CatalogueError;
 use std::alloc::AllocFailed;
 use thiserror::Error;
@@ -34,6 +35,7 @@ pub enum Part {
     Execute(Held),
     Pieces(Depth),
     Queue { pieces: u16 },
+    Replay,
 }
 
 impl Part {
@@ -70,6 +72,7 @@ impl Part {
             "queue" => Some(Part::Queue { pieces: 1_024 }),
             "long_queue" => Some(Part::Queue { pieces: 2_048 }),
             "many_limited" => Some(Part::over(100_000, Some(1_000_000))),
+            "replay" => Some(Part::Replay),
             _ => None,
         }
     }
@@ -82,7 +85,7 @@ impl Part {
     /// What is counted.
     pub fn unit(self) -> &'static str {
         match self {
-            Part::Write | Part::Read | Part::Copy | Part::Scan => "bytes",
+            Part::Write | Part::Read | Part::Copy | Part::Scan | Part::Replay => "bytes",
             Part::Graph(_) => "blocks",
             Part::Commit(_) | Part::Execute(_) | Part::Pieces(Depth::Txns) => "transactions",
             Part::Save => "rows",
@@ -143,6 +146,30 @@ impl From<FlatError> for PartError {
 impl From<Failed> for PartError {
     fn from(_: Failed) -> PartError {
         PartError::Failed
+    }
+}
+
+impl From<ReadError> for PartError {
+    fn from(error: ReadError) -> PartError {
+        match error {
+            ReadError::Failed => PartError::Failed,
+            ReadError::NoMemory => PartError::NoMemory,
+        }
+    }
+}
+
+impl From<ScriptError> for PartError {
+    fn from(_: ScriptError) -> PartError {
+        PartError::Refused
+    }
+}
+
+impl From<AllError> for PartError {
+    fn from(error: AllError) -> PartError {
+        match error {
+            AllError::Abort(_) => PartError::Refused,
+            AllError::NoMemory => PartError::NoMemory,
+        }
     }
 }
 
