@@ -1,8 +1,10 @@
 // One call of the program. Its streams and devices are plain bytes before and after the call.
+ghost use Rattle.std.specs.Prelude.{Some};
+
 use crate::disks::{LentDisk, Outage};
 use crate::faults::{Failing, StepFaults};
 use pac_main::pacman;
-use pac_outside::{Devices, Gate, MemDisk, MemSink, MemSource};
+use pac_outside::{Devices, Failed, Gate, MemDisk, MemSink, MemSource, Sink, Source};
 use std::alloc::{AllocError, Global};
 use std::sync::Wait;
 use std::sync::atomic::{AtomicU64, Ordering};
@@ -12,7 +14,9 @@ use std::thread::Threads;
 #[derive(Drop)]
 pub struct Ending {
     pub status: u8,
-    /// How many device calls it made.
+    /// How many reads of the input it made, how many writes of the output, and how many device calls.
+    pub reads: u64,
+    pub writes: u64,
     pub disk_calls: u64,
     pub output: Vec<u8>,
     pub errors: Vec<u8>,
@@ -22,6 +26,8 @@ impl Ending {
     pub fn new(alloc: Global) -> Ending {
         Ending {
             status: 0,
+            reads: 0,
+            writes: 0,
             disk_calls: 0,
             output: Vec::new(alloc),
             errors: Vec::new(alloc),
@@ -29,10 +35,46 @@ impl Ending {
     }
 }
 
+/// A source that counts its reads.
+#[derive(Drop)]
+struct CountedSource {
+    inner: MemSource,
+    reads: u64,
+}
+
+impl Source for CountedSource {
+    ghost left = { λ source. Some source.inner.left };
+
+    ghost faults = { λ source. source.inner.calls.faults };
+
+    fn read(&mut self, buf: &mut [u8]) -> Result<usize, Failed> {
+        self.reads = self.reads.saturating_add(1);
+        self.inner.read(buf)
+    }
+}
+
+/// A sink that counts its writes.
+#[derive(Drop)]
+struct CountedSink {
+    inner: MemSink,
+    writes: u64,
+}
+
+impl Sink for CountedSink {
+    ghost held = { λ sink. Some sink.inner.held };
+
+    ghost faults = { λ sink. sink.inner.calls.faults };
+
+    fn write(&mut self, piece: &[u8]) -> Result<usize, Failed> {
+        self.writes = self.writes.saturating_add(1);
+        self.inner.write(piece)
+    }
+}
+
 #[derive(Drop)]
 struct Streams {
-    input: MemSource,
-    output: MemSink,
+    input: CountedSource,
+    output: CountedSink,
     errors: MemSink,
 }
 
@@ -65,8 +107,14 @@ fn sink_of(alloc: Global, failing: Failing) -> Result<MemSink, AllocError> {
 
 fn streams_of(alloc: Global, input: &[u8], faults: StepFaults) -> Result<Streams, AllocError> {
     Ok(Streams {
-        input: source_of(alloc, input, faults.read)?,
-        output: sink_of(alloc, faults.write)?,
+        input: CountedSource {
+            inner: source_of(alloc, input, faults.read)?,
+            reads: 0,
+        },
+        output: CountedSink {
+            inner: sink_of(alloc, faults.write)?,
+            writes: 0,
+        },
         errors: sink_of(alloc, faults.error)?,
     })
 }
@@ -162,7 +210,9 @@ fn call_streams<RT: Threads + Wait + Sync>(
 }
 
 fn take_streams(streams: &Streams, outcome: &mut Ending) -> Result<(), AllocError> {
-    set_bytes(&mut outcome.output, streams.output.bytes())?;
+    outcome.reads = streams.input.reads;
+    outcome.writes = streams.output.writes;
+    set_bytes(&mut outcome.output, streams.output.inner.bytes())?;
     set_bytes(&mut outcome.errors, streams.errors.bytes())
 }
 

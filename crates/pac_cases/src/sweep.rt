@@ -233,22 +233,26 @@ fn verdict_of(outcome: &Ending, expected: &[u8], trial: Trial) -> Verdict {
     Verdict::Wrong
 }
 
+// How many calls of a kind were made.
+fn calls_made(outcome: &Ending, target: CallKind) -> u64 {
+    match target {
+        CallKind::Read => outcome.reads,
+        CallKind::Write => outcome.writes,
+        CallKind::Call => outcome.disk_calls,
+    }
+}
+
 // Whether nothing failed and everything was done.
 fn is_past(outcome: &Ending, expected: &[u8], trial: Trial) -> bool {
-    let is_made = match trial.target {
-        CallKind::Call => outcome.disk_calls >= trial.failing.call,
-        _ => false,
-    };
-    outcome.status == 0 && outcome.output.as_slice() == expected && !is_made
+    calls_made(outcome, trial.target) < trial.failing.call
+        && outcome.status == 0
+        && outcome.errors.is_empty()
+        && outcome.output.as_slice() == expected
 }
 
 // Whether it ended at the failing call, with a prefix of the output.
 fn is_right(outcome: &Ending, expected: &[u8], trial: Trial) -> bool {
-    let is_last = match trial.target {
-        CallKind::Call => outcome.disk_calls == trial.failing.call,
-        _ => true,
-    };
-    is_last
+    calls_made(outcome, trial.target) == trial.failing.call
         && outcome.status == trial.target.status()
         && outcome.errors.as_slice() == trial.target.error().as_bytes()
         && expected.starts_with(&outcome.output)
