@@ -25,7 +25,7 @@ fn fit_until_closed<R: Rows>(core: Core<R>, batches: &[Batch]) -> ((bool, bool),
 }
 
 // The same of the batches after the first, where that one is loaded.
-fn fit_behind_first(
+fn fit_after_first(
     alloc: Global,
     plan: &Plan,
     batches: &[Batch],
@@ -41,7 +41,7 @@ fn fit_behind_first(
 fn fit_of_three(alloc: Global) -> Option<((bool, bool), (bool, bool))> {
     let script = script_of(alloc, BANK, THREE)?;
     let plan = plan_of(alloc, &script.catalogue)?;
-    fit_behind_first(alloc, &plan, script.batches.as_slice())
+    fit_after_first(alloc, &plan, script.batches.as_slice())
 }
 
 // The batch that comes next may be loaded, and no other one. Once the core is closed none may.

@@ -287,7 +287,7 @@ fn wrong_in(alloc: Global, row: &Row) -> Option<u64> {
 }
 
 #[test]
-fn all_orders_leave_what_serial_execution_does(rt: HostRuntime) {
+fn random_orders_leave_what_serial_execution_does(rt: HostRuntime) {
     for (at, row) in ROWS.iter().enumerate() {
         assert_eq!(rt; wrong_in(rt.alloc(), row), None, "script {at}");
     }

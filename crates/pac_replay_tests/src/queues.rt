@@ -66,7 +66,7 @@ fn pairs_of_calls(alloc: Global) -> Option<(usize, TakeAnswer, u64)> {
 }
 
 #[test]
-fn pieces_of_one_row_wait_for_the_next_alone(rt: HostRuntime) {
+fn a_piece_of_one_row_waits_only_for_the_one_before_it(rt: HostRuntime) {
     let next = TakeAnswer::Given(PieceId { txn: 1, block: 1 });
     assert_eq!(rt; pairs_of_calls(rt.alloc()), Some((1_024, next, 1_023)));
 }

@@ -12,15 +12,15 @@ pub(crate) fn row_of(alloc: Global, number: i64) -> Result<Row, NoMemory> {
     Ok(Row::of(vec![in alloc; Value::Int(number)]?))
 }
 
-// Puts a number at a key of the first table, if there is one.
+// Puts its number at a key of the first table, if there is one.
 fn put_number(alloc: Global, rows: &mut OrderedRows, key: i64) -> Result<(), NoMemory> {
     if rows.tables() == 0 {
         return Ok(());
     }
-    rows.put(0, Key::Int(key), row_of(alloc, 10)?)
+    rows.put(0, Key::Int(key), row_of(alloc, key)?)
 }
 
-// Puts numbers at the keys from 1 on.
+// Puts their numbers at the keys from 1 on.
 fn put_numbers(alloc: Global, rows: &mut OrderedRows, count: u32) -> Result<(), NoMemory> {
     for key in 0..count {
         put_number(alloc, rows, i64::from(key) + 1)?;
@@ -106,7 +106,7 @@ fn copied_of(alloc: Global, count: u32) -> Result<(u64, Option<i64>), NoMemory> 
 
 #[test]
 fn many_rows_are_copied(rt: HostRuntime) -> Result<(), Fail> {
-    assert_eq!(rt; copied_of(rt.alloc(), 1_000)?, (1_000, Some(10)));
+    assert_eq!(rt; copied_of(rt.alloc(), 1_000)?, (1_000, Some(1_000)));
     Ok(())
 }
 

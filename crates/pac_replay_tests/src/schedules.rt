@@ -258,12 +258,12 @@ fn two_sets_go(alloc: Global) -> bool {
 
 #[test]
 fn pieces_are_handed_out_as_worked(rt: HostRuntime) {
-    for row in ROWS {
-        assert!(rt; row_goes(rt.alloc(), row));
+    for (at, row) in ROWS.iter().enumerate() {
+        assert!(rt; row_goes(rt.alloc(), row), "row {at}");
     }
 }
 
 #[test]
-fn a_set_is_opened_behind_another(rt: HostRuntime) {
+fn a_set_is_opened_after_another(rt: HostRuntime) {
     assert!(rt; two_sets_go(rt.alloc()));
 }

@@ -126,8 +126,8 @@ fn more_are_other(alloc: Global) -> Result<bool, NoMemory> {
 
 #[test]
 fn an_opening_stands_through_changes(rt: HostRuntime) -> Result<(), Fail> {
-    for row in ROWS {
-        assert!(rt; row_goes(rt.alloc(), row)?);
+    for (at, row) in ROWS.iter().enumerate() {
+        assert!(rt; row_goes(rt.alloc(), row)?, "row {at}");
     }
     assert!(rt; more_are_other(rt.alloc())?);
     Ok(())

@@ -78,7 +78,7 @@ pub(crate) fn has_ended(status: u8, streams: &Streams, end: (u8, &str, &str)) ->
 }
 
 // Whether the command ends with this status, output and line over the streams.
-fn knows<D: Disk>(
+fn command_ends<D: Disk>(
     alloc: Global,
     word: &str,
     streams: &mut Streams,
@@ -99,7 +99,7 @@ pub fn ends<D: Disk>(
     end: (u8, &str, &str),
 ) -> Result<bool, AllocError> {
     let mut streams = streams_over(alloc, input);
-    knows(alloc, word, &mut streams, devices, end)
+    command_ends(alloc, word, &mut streams, devices, end)
 }
 
 const TABLE: &str = "table T(key int, v int);";
@@ -142,13 +142,13 @@ fn count_on_new_devices(alloc: Global) -> Result<usize, AllocError> {
 }
 
 #[test]
-fn each_command_has_a_call_of_its_own(rt: HostRuntime) -> Result<(), Fail> {
+fn three_commands_have_calls_of_their_own(rt: HostRuntime) -> Result<(), Fail> {
     assert_eq!(rt; count_on_new_devices(rt.alloc())?, STEPS.len());
     Ok(())
 }
 
 #[test]
-fn arguments_that_cannot_be_read_are_known(rt: HostRuntime) {
+fn an_error_of_arguments_is_refused(rt: HostRuntime) {
     let mut errors = sink_of(rt.alloc());
     let status = refuse_arguments(ArgumentsError::NoMemory, &mut errors);
     assert!(rt; status == 9 && errors.inner.bytes() == b"no memory\n".as_slice());

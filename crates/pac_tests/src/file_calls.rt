@@ -119,7 +119,7 @@ fn a_file_that_another_wrote_meanwhile_is_left_alone(rt: HostRuntime) {
 }
 
 // Whether a file is written, and how many of three syncs of it succeed.
-fn syncs_before_the_fault(recording: &Recording<'_>) -> (bool, u32) {
+fn write_and_three_syncs(recording: &Recording<'_>) -> (bool, u32) {
     let mut disk = FileDisk::new(recording, LOG);
     let is_written = disk.write_at(0, b"a") == Ok(());
     let mut count = 0u32;
@@ -144,6 +144,6 @@ fn no_sync_succeeds_after_one_that_failed(rt: HostRuntime) {
         let recording = Recording {
             recorder: &recorder,
         };
-        assert_eq!(rt; syncs_before_the_fault(&recording), end);
+        assert_eq!(rt; write_and_three_syncs(&recording), end);
     }
 }

@@ -1,7 +1,6 @@
 // The largest graph.
 use pac_base::NoMemory;
 use pac_graph::{Digraph, MAX_NODES};
-use pac_outside::{MemSource, ReadError, read_up_to};
 use std::alloc::{AllocError, Global};
 use std::test::Fail;
 

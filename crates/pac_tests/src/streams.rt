@@ -133,7 +133,7 @@ fn streams_answer_short_counts_and_errors(rt: HostRuntime) {
 }
 
 #[test]
-fn no_disk_fails_and_the_open_gate_holds_nobody(rt: HostRuntime) {
+fn each_call_of_no_disk_fails_and_the_open_gate_never_blocks(rt: HostRuntime) {
     let mut disk = NoDisk::new();
     let mut buf = [0u8; 1];
     let fails = disk.len() == Err(Failed)

@@ -121,8 +121,7 @@ fn workers_that_end_give_back(rt: HostRuntime) -> Result<(), NoMemory> {
         let mut machine = Chains::new(alloc, pattern)?;
         machine.starve(starved);
         machine.refuse(refused);
-        let gate = Counting::new(alloc, pattern)?;
-        let replayed = replay(&rt, alloc, workers, machine, &gate)?;
+        let replayed = replay(&rt, alloc, workers, machine, &OpenGate)?;
         let counted = sum(replayed.tallies.as_slice());
         assert_eq!(rt; counted.saturating_add(replayed.drained), pattern.pieces());
         assert!(rt; replayed.machine.is_right());
