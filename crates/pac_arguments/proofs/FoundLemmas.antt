@@ -11,7 +11,7 @@ use Rattle.clap.specs.declared.error.kind.ErrorKind.TheVariants.{OutOfMemory}
 use Rattle.clap.specs.declared.parser.matches.ArgMatches.{ArgMatches}
 use Rattle.clap.specs.declared.parser.matches.Found.{Found}
 use Rattle.clap.proofs.WalkLemmas.{both, first_value-rows}
-use Rattle.pac_arguments.specs.Found.{found_rows, plain_app, with_option, with_flag, with_operand}
+use Rattle.pac_arguments.specs.Found.{found_rows}
 
 taken_by : (kinds : Kinds) (rows : List Row) → kinds ≡ [] → cond (is_empty kinds) (Some rows) None ≡ Some rows
 taken_by kinds rows e = rw e refl

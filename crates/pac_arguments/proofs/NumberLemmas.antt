@@ -1,6 +1,6 @@
 -- Numbers of few digits are small.
-use Rattle.std.proofs.Common.{◌≡◌, ◌<◌, ◌≤◌, ◌+◌, ◌*◌, ◌^◌, ℕ, suc, refl, arith, add-one, lit<}
-use Rattle.std.proofs.Math.Nat.{pow-suc, pow-le-pow_right}
+use Rattle.std.proofs.Common.{◌≡◌, ◌<◌, ◌≤◌, ◌^◌, ℕ, refl, arith, lit<}
+use Rattle.std.proofs.Math.Nat.{pow-le-pow_right}
 
 pub few_small : (i n : ℕ) → i < 8 → n < 10 ^ i → n < 10000000
 few_small i n lt small =

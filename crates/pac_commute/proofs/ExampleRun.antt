@@ -11,7 +11,7 @@ use Rattle.pac_plan.specs.Pieces.{apply}
 use Rattle.pac_commute.specs.HandOut.{IsReadyPiece, IsPieceTaken}
 use Rattle.pac_commute.specs.PartialFits.{TxnIsOfPlan, TxnsFitPlan}
 use Rattle.pac_commute.specs.Loads.{begin, next_in_job, loaded, and_batch}
-use Rattle.pac_commute.specs.Machine.{Machine, among, all_but, opening_machine, IsReadyAt, access_at, world_at, Step, Loaded, Given, Kept, JobSteps}
+use Rattle.pac_commute.specs.Machine.{Machine, among, all_but, opening_machine, world_at, Loaded, Given, Kept, JobSteps}
 use Rattle.pac_commute.specs.Machine as machine
 use Rattle.pac_commute.specs.Bank.{bank, call, puts_row}
 use Rattle.pac_commute.specs.Examples.{at, bank_world, bank_pieces, bank_takes, bank_ends, bank_job, TakesOfBank, BankRun}

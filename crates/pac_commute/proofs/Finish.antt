@@ -2,7 +2,7 @@
 use Rattle.std.proofs.Common.{◌≡◌, true}
 use Rattle.pac_ops.specs.declared.piece.PieceId.{PieceId}
 use Rattle.pac_plan.specs.Analysis.{IsPlan}
-use Rattle.pac_commute.specs.Machine.{Machine, among, world_at, ends_at, PredsFinished, Invariant, IsOut, JobSteps, StaysOut, Step, FinishIsApply}
+use Rattle.pac_commute.specs.Machine.{Machine, among, world_at, ends_at, Invariant, JobSteps, StaysOut, Step, FinishIsApply}
 use Rattle.pac_commute.specs.Machine as machine
 use Rattle.pac_commute.specs.Loads.{Job}
 use Rattle.pac_commute.proofs.PlanFacts.{well_formed_plan}

@@ -14,7 +14,7 @@ use Rattle.pac_plan.specs.Pieces.{Present, of_txn, run_ops, part, World, ops, ap
 use Rattle.pac_plan.specs.WorldOrder.{WellFormed}
 use Rattle.pac_commute.specs.Exchange.{HoldsNeeds}
 use Rattle.pac_commute.proofs.Turns as turns
-use Rattle.pac_commute.proofs.Turns.{each_with, each_both}
+use Rattle.pac_commute.proofs.Turns.{each_with}
 use Rattle.pac_base.proofs.TestLemmas.{or_left, or_right, eq_self, same_number, equal_number, and_left, and_right, and_both, or_cases, or_of_false, each_mem, mem_each, unlike, not_true}
 use Rattle.pac_ops.proofs.DefinedLemmas.{undefined_meaning}
 use Rattle.pac_commute.proofs.Laws.{Apart, apart, laws, turn, says, noted_by, written_env, other_env}

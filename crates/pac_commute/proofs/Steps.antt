@@ -20,7 +20,7 @@ use Rattle.pac_commute.specs.PlanLaws.{txns_of, AllInTables}
 use Rattle.pac_commute.specs.PartialFits.{TxnIsOfPlan, TxnsFitPlan}
 use Rattle.pac_commute.specs.Works.{IsWork, worked, IsOutcome}
 use Rattle.pac_commute.specs.Loads.{Job, begin, next_in_job, loaded, and_batch, LoadKeeps}
-use Rattle.pac_commute.specs.Machine.{Machine, among, all_but, opening_machine, world_at, pieces_at, ends_at, access_at, PredsFinished, IsReadyAt, Step, Loaded, Given, Ran, Kept, GivenBack, JobSteps, IsOut, Invariant, OpensJob, StepsKeep, RunsKeep, FinishesReady, StaysFinished, LeavesOut, OutsApart, StaysOut, FindsTheSame, WorkStays, OutsHaveInputs}
+use Rattle.pac_commute.specs.Machine.{Machine, among, all_but, world_at, pieces_at, ends_at, access_at, PredsFinished, Step, Loaded, Given, Ran, Kept, GivenBack, JobSteps, IsOut, Invariant, OpensJob, StaysFinished, LeavesOut, StaysOut, FindsTheSame}
 use Rattle.pac_commute.specs.Machine as machine
 use Rattle.pac_base.proofs.TestLemmas.{or_left, or_right, eq_self, same_number, and_left, and_right, and_both, or_cases, or_none, any_gives, mem_each, unlike}
 use Rattle.pac_commute.proofs.BatchLemmas.{get-first, get-second, txns-more, run_on-more}

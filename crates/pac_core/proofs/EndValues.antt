@@ -1,5 +1,5 @@
 -- What a piece leaves among all values at its end: those that it gives for others, since it finds none of them.
-use Rattle.std.proofs.Common.{◌≡◌, ℕ, Bool, true, false, cond, ◌&&◌, not, ◌||◌, List, Option, Some, None, refl, sym, ap, ◌∙◌, subst}
+use Rattle.std.proofs.Common.{◌≡◌, ℕ, Bool, true, false, cond, ◌&&◌, not, List, Option, Some, None, refl, sym, ap, ◌∙◌}
 use Rattle.std.specs.Prelude.{is_some}
 use Rattle.std.specs.FinMap.{get}
 use Rattle.pac_base.proofs.TestLemmas.{and_left}
@@ -11,12 +11,12 @@ use Rattle.pac_ops.specs.declared.transaction.Txn.{Txn}
 use Rattle.pac_ops.specs.declared.transaction.Txn.TheVariants.{Call as ACall, AdHoc}
 use Rattle.pac_ops.specs.Effects.{defined_in, used_in}
 use Rattle.pac_plan.specs.declared.parts.PlanParts.{PlanParts}
-use Rattle.pac_plan.specs.Codes.{code_in, code_ops, piece_ops, proc_ops}
+use Rattle.pac_plan.specs.Codes.{code_in, code_ops, proc_ops}
 use Rattle.pac_tables.specs.declared.writes.Write.{Write}
 use Rattle.pac_piece.specs.Frames.{give_value}
 use Rattle.pac_piece.specs.Values.{IsEndOver, state_over}
 use Rattle.pac_piece.proofs.KeptLemmas.{none_given_stays}
-use Rattle.pac_interface.specs.Interfaces.{is_input, is_used_outside}
+use Rattle.pac_interface.specs.Interfaces.{is_used_outside}
 use Rattle.pac_commute.specs.Works.{given_over}
 use Rattle.pac_core.specs.Inputs.{FindsInputs, LeavesValues, is_found, is_passed_on}
 

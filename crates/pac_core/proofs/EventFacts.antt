@@ -11,7 +11,6 @@ use Rattle.pac_ops.specs.declared.note.Note.{Note}
 use Rattle.pac_ops.specs.declared.piece.PieceId.{PieceId}
 use Rattle.pac_ops.specs.declared.transaction.Txn.{Txn}
 use Rattle.pac_ops.specs.Effects.{NumberedOp}
-use Rattle.pac_plan.specs.declared.access.Access.TheVariants.{Whole}
 use Rattle.pac_plan.specs.declared.code.Code.{Code}
 use Rattle.pac_plan.specs.Codes.{TxnFitsPlan, code_in, code_ops, piece_ops}
 use Rattle.pac_plan.specs.Pieces.{covers, ops}
@@ -23,9 +22,7 @@ use Rattle.pac_piece.specs.Runnable.{IsRunnable, IsRunnableOn, IsRunnableOver}
 use Rattle.pac_piece.specs.Sources.{HaveTables}
 use Rattle.pac_piece.specs.Values.{IsValueOf, IsValueOver, state_over}
 use Rattle.pac_piece.proofs.TableLemmas.{plan_tables, writes_there}
-use Rattle.pac_sched.specs.declared.state.PieceState.{PieceState}
 use Rattle.pac_sched.specs.declared.state.PieceState.TheVariants as state
-use Rattle.pac_sched.specs.Schedules.{is_finished}
 use Rattle.pac_undo.specs.Undo.{Undoable}
 use Rattle.pac_commute.specs.Loads.{Job}
 use Rattle.pac_commute.specs.Machine.{IsOut, Machine, PredsFinished, access_at, among, ends_at, world_at}

@@ -1,13 +1,11 @@
 -- A piece of a set is finished, whatever is kept of the set: the replay has it finished, its state is the piece applied, and all is kept.
-use Rattle.std.proofs.Common.{◌≡◌, ◌⊎◌, ℕ, zero, suc, ◌+◌, ◌-◌, ◌<◌, ◌==◌, Bool, true, false, cond, not, ◌&&◌, ◌||◌, List, [], ◌∷◌, map, length, Option, Some, None, refl, sym, ap, ap₂, subst, ◌∙◌, true≢false, inl, inr, arith}
-use Rattle.std.specs.Prelude.{slice_get, slice_set, filter, unwrap_or, T}
-use Rattle.std.specs.List.{list_all}
+use Rattle.std.proofs.Common.{◌≡◌, ◌⊎◌, ℕ, ◌+◌, ◌-◌, ◌<◌, ◌==◌, Bool, true, false, cond, not, ◌&&◌, ◌||◌, List, [], ◌∷◌, map, length, Option, Some, None, refl, sym, ap, ap₂, subst, ◌∙◌, true≢false, inl, inr, arith}
+use Rattle.std.specs.Prelude.{slice_get, slice_set, filter, T}
 use Rattle.std.specs.FinMap.{get, is_sorted}
-use Rattle.std.proofs.lemmas.List.{length-map, length-set}
+use Rattle.std.proofs.lemmas.List.{length-set}
 use Rattle.std.proofs.lemmas.Option.{same_Some, slice_get_within}
 use Rattle.pac_base.specs.Members.{Mem}
 use Rattle.pac_base.proofs.TestLemmas.{and_false, and_left, and_right, any_gives, any_mem, equal_number, not_true, or_cases, or_left, or_right, same_number, unlike}
-use Rattle.pac_base.proofs.ItemLemmas.{item_at}
 use Rattle.pac_value.specs.declared.values.Value.{Value}
 use Rattle.pac_value.specs.Expressions.{Values}
 use Rattle.pac_ops.specs.declared.batch.Batch.{Batch}
@@ -31,9 +29,9 @@ use Rattle.pac_interface.proofs.OutputLemmas.{inputs_are_outputs}
 use Rattle.pac_batch.specs.Sets.{set_of}
 use Rattle.pac_sched.specs.declared.state.PieceState.{PieceState}
 use Rattle.pac_sched.specs.declared.state.PieceState.TheVariants as state
-use Rattle.pac_sched.specs.Schedules.{IsInOrder, all_finished, at_position, is_finished, is_out, position_of, set_at, with_state}
+use Rattle.pac_sched.specs.Schedules.{is_finished, is_out}
 use Rattle.pac_sets.specs.declared.set_id.SetId.{SetId}
-use Rattle.pac_sets.specs.Sets.{Kept, WaitsForNothing, kept_of, with_kept_at}
+use Rattle.pac_sets.specs.Sets.{Kept, WaitsForNothing, with_kept_at}
 use Rattle.pac_sets.specs.SetOrder.{set_cmp}
 use Rattle.pac_commute.specs.Loads.{Job, next_in_job}
 use Rattle.pac_commute.specs.PlanLaws.{numbers_of, txns_of}
@@ -47,14 +45,14 @@ use Rattle.pac_core.specs.declared.stage.OpenSet.{OpenSet}
 use Rattle.pac_core.specs.declared.stage.SetStage.{SetStage}
 use Rattle.pac_core.specs.declared.stage.SetStage.TheVariants.{Waiting, Open}
 use Rattle.pac_core.specs.Inputs.{LeavesValues, is_found, is_passed_on}
-use Rattle.pac_core.specs.Links.{AreStages, IsOpened, piece_in, set_ids, set_of_piece, IsStageOf, IsUnfinishedBatch, KeepsBatch, KeepsInputs, KeepsProgress, KeepsValues, batches_of, mark, mark_in, pieces_marked, replay_so_far}
+use Rattle.pac_core.specs.Links.{AreStages, IsOpened, piece_in, set_ids, IsStageOf, IsUnfinishedBatch, KeepsBatch, KeepsInputs, KeepsProgress, KeepsValues, batches_of, mark, mark_in, pieces_marked, replay_so_far}
 use Rattle.pac_core.specs.Moves.{IsFinishedTo}
 use Rattle.pac_core.specs.Replay.{Replay, left, loaded_pieces, machine_of, present_of, with_finished}
 use Rattle.pac_core.specs.Results.{IsGiven}
 use Rattle.pac_core.proofs.Alike.{invariant_is, present_is}
-use Rattle.pac_core.proofs.KeptAt.{equal_or_not, get_changed, get_other, ids_stay, kept_changed, kept_stays, passes_still, still_up}
-use Rattle.pac_core.proofs.Lists.{at_map, at_mem, filter_alike, filter_of, mem_at, set_other, set_same}
-use Rattle.pac_core.proofs.Marks.{Placed, among_filter, finished_is, out_is, placed, set_is}
+use Rattle.pac_core.proofs.KeptAt.{equal_or_not, get_changed, get_other, ids_stay, passes_still, still_up}
+use Rattle.pac_core.proofs.Lists.{at_map, filter_alike, filter_of, set_other, set_same}
+use Rattle.pac_core.proofs.Marks.{among_filter, finished_is, out_is}
 use Rattle.pac_core.proofs.OneLess.{one_less}
 use Rattle.pac_core.proofs.Ready.{SetAt, all_txns, own_mark, own_piece, stands_set, txns}
 use Rattle.pac_core.proofs.SetFacts.{Stands, batch_at, ops_at}

@@ -1,66 +1,42 @@
 -- A piece of an open set is finished: the replay has it finished, its state is the piece applied, and all is kept.
-use Rattle.std.proofs.Common.{◌≡◌, ◌⊎◌, ℕ, zero, suc, ◌+◌, ◌-◌, ◌<◌, ◌==◌, Bool, true, false, cond, not, ◌&&◌, ◌||◌, List, [], ◌∷◌, map, length, Option, Some, None, refl, sym, ap, ap₂, subst, ◌∙◌, true≢false, inl, inr, arith}
-use Rattle.std.specs.Prelude.{slice_get, slice_set, filter, unwrap_or, T}
+use Rattle.std.proofs.Common.{◌≡◌, ◌⊎◌, ℕ, zero, suc, ◌+◌, ◌-◌, Bool, true, false, cond, List, [], ◌∷◌, length, Option, Some, None, refl, sym, ap, subst, ◌∙◌, true≢false, inl, inr, arith}
+use Rattle.std.specs.Prelude.{slice_get, unwrap_or}
 use Rattle.std.specs.List.{list_all}
-use Rattle.std.specs.FinMap.{get, is_sorted}
 use Rattle.std.proofs.lemmas.List.{length-map, length-set}
 use Rattle.std.proofs.lemmas.Option.{same_Some, slice_get_within}
 use Rattle.pac_base.specs.Members.{Mem}
-use Rattle.pac_base.proofs.TestLemmas.{and_false, and_left, and_right, any_gives, any_mem, equal_number, not_true, or_cases, or_left, or_right, same_number, unlike}
+use Rattle.pac_base.proofs.TestLemmas.{and_left, and_right}
 use Rattle.pac_base.proofs.ItemLemmas.{item_at}
-use Rattle.pac_value.specs.declared.values.Value.{Value}
 use Rattle.pac_value.specs.Expressions.{Values}
-use Rattle.pac_ops.specs.declared.batch.Batch.{Batch}
 use Rattle.pac_ops.specs.declared.note.Note.{Note}
 use Rattle.pac_ops.specs.declared.piece.PieceId.{PieceId}
-use Rattle.pac_ops.specs.declared.transaction.Change.{Change}
-use Rattle.pac_ops.specs.declared.transaction.Change.TheVariants.{Put as PutRow, Delete as DeleteRow}
 use Rattle.pac_ops.specs.declared.transaction.Txn.{Txn}
-use Rattle.pac_ops.specs.declared.transaction.Txn.TheVariants.{Call as ACall, AdHoc}
-use Rattle.pac_ops.specs.Notes.{least}
-use Rattle.pac_ops.specs.Uses.{defined_variable}
-use Rattle.pac_ops.specs.Effects.{NumberedOp, defined_in, is_var, numbered_from, record_op}
-use Rattle.pac_plan.specs.declared.parts.PlanParts.{PlanParts}
-use Rattle.pac_plan.specs.Pieces.{Present, adds, apply, is_piece, ops}
-use Rattle.pac_plan.specs.Codes.{piece_ops}
-use Rattle.pac_plan.specs.Worlds.{blocks_in}
-use Rattle.pac_plan.proofs.PartLemmas.{part-mem}
-use Rattle.pac_plan.proofs.WorldLemmas.{rises-range}
+use Rattle.pac_plan.specs.Pieces.{apply, is_piece, ops}
 use Rattle.pac_tables.specs.declared.writes.Write.{Write}
-use Rattle.pac_interface.proofs.OutputLemmas.{inputs_are_outputs}
-use Rattle.pac_batch.specs.Sets.{set_of}
 use Rattle.pac_sched.specs.declared.state.PieceState.{PieceState}
 use Rattle.pac_sched.specs.declared.state.PieceState.TheVariants as state
-use Rattle.pac_sched.specs.Schedules.{IsInOrder, all_finished, at_position, is_finished, is_out, position_of, set_at, with_state}
+use Rattle.pac_sched.specs.Schedules.{IsInOrder, all_finished, at_position, is_finished, position_of, set_at, with_state}
 use Rattle.pac_sets.specs.declared.set_id.SetId.{SetId}
 use Rattle.pac_sets.specs.Sets.{Kept, WaitsForNothing, kept_of, with_kept_at}
-use Rattle.pac_sets.specs.SetOrder.{set_cmp}
-use Rattle.pac_commute.specs.Loads.{Job, next_in_job}
-use Rattle.pac_commute.specs.PlanLaws.{numbers_of, txns_of}
-use Rattle.pac_commute.specs.Machine.{Invariant, Machine, all_but, among, world_at}
-use Rattle.pac_commute.specs.Works.{given_over}
-use Rattle.pac_commute.proofs.Steps.{piece_self, same_piece}
-use Rattle.pac_commute.proofs.Theorem.{in_order}
+use Rattle.pac_commute.specs.Loads.{Job}
+use Rattle.pac_commute.specs.Machine.{Machine, world_at}
 use Rattle.pac_core.specs.declared.loaded.LoadedBatch.{LoadedBatch}
 use Rattle.pac_core.specs.declared.progress.Progress.{Progress}
 use Rattle.pac_core.specs.declared.stage.OpenSet.{OpenSet}
 use Rattle.pac_core.specs.declared.stage.SetStage.{SetStage}
-use Rattle.pac_core.specs.declared.stage.SetStage.TheVariants.{Waiting, Open}
-use Rattle.pac_core.specs.Inputs.{LeavesValues, is_found, is_passed_on}
-use Rattle.pac_core.specs.Links.{AreStages, IsOpened, piece_in, set_ids, set_of_piece, IsStageOf, IsUnfinishedBatch, KeepsBatch, KeepsInputs, KeepsProgress, KeepsValues, batches_of, mark, mark_in, pieces_marked, replay_so_far}
+use Rattle.pac_core.specs.declared.stage.SetStage.TheVariants.{Open}
+use Rattle.pac_core.specs.Inputs.{LeavesValues}
+use Rattle.pac_core.specs.Links.{piece_in, set_of_piece, IsStageOf, KeepsProgress, batches_of, mark, mark_in, replay_so_far}
 use Rattle.pac_core.specs.Moves.{IsFinishedTo, after_finish, finished_in}
 use Rattle.pac_core.specs.Replay.{Replay, left, loaded_pieces, machine_of, present_of, with_finished}
 use Rattle.pac_core.specs.Results.{IsGiven}
 use Rattle.pac_core.proofs.FinishedMark as mark_of
 use Rattle.pac_core.proofs.FinishedMark.{IsStepped}
-use Rattle.pac_core.proofs.Alike.{invariant_is, present_is}
-use Rattle.pac_core.proofs.KeptAt.{equal_or_not, get_changed, get_other, ids_stay, kept_changed, kept_stays, passes_still, still_up}
-use Rattle.pac_core.proofs.Lists.{at_map, at_mem, filter_alike, filter_of, mem_at, set_other, set_same}
-use Rattle.pac_core.proofs.Marks.{Placed, among_filter, finished_is, out_is, placed, set_is}
-use Rattle.pac_core.proofs.OneLess.{one_less}
+use Rattle.pac_core.proofs.KeptAt.{equal_or_not, kept_changed, kept_stays, passes_still}
+use Rattle.pac_core.proofs.Lists.{at_mem, mem_at}
+use Rattle.pac_core.proofs.Marks.{Placed, placed, set_is}
 use Rattle.pac_core.proofs.OneMark.{mark_after, moved, old_mark}
 use Rattle.pac_core.proofs.Ready.{SetAt, all_txns, any_mark, own_mark, placed_here, position_is, txns, unfinished_here}
-use Rattle.pac_core.proofs.SetFacts.{Stands, batch_at, ops_at}
 
 -- ---- states
 

@@ -4,11 +4,10 @@ use Rattle.std.specs.Prelude.{slice_get}
 use Rattle.std.proofs.lemmas.List.Folds.{sum_by-zero}
 use Rattle.pac_value.specs.Expressions.{Values}
 use Rattle.pac_ops.specs.declared.note.Note.{Note}
-use Rattle.pac_ops.specs.declared.piece.PieceId.{PieceId}
 use Rattle.pac_ops.specs.Notes.{least}
 use Rattle.pac_sched.specs.declared.state.PieceState.{PieceState}
 use Rattle.pac_sched.specs.declared.state.PieceState.TheVariants as state
-use Rattle.pac_sched.specs.Schedules.{Schedule, all_finished, is_finished, unfinished_pieces, with_state}
+use Rattle.pac_sched.specs.Schedules.{Schedule, all_finished, is_finished, unfinished_pieces}
 use Rattle.pac_sched.proofs.FollowerLemmas.{to_count}
 use Rattle.pac_sched.proofs.StateLemmas.{all_same}
 use Rattle.pac_sets.specs.declared.set_id.SetId.{SetId}

@@ -1,8 +1,7 @@
 -- What becomes of a core where the first piece that is left of a set that waits is run over the tables, and finished.
-use Rattle.std.proofs.Common.{◌≡◌, ℕ, ◌+◌, ◌-◌, ◌<◌, false, List, ◌∷◌, Option, Some, refl, sym, ap, subst, ◌∙◌, inl, arith}
+use Rattle.std.proofs.Common.{◌≡◌, ℕ, ◌+◌, ◌-◌, List, ◌∷◌, Option, Some, refl, sym, ap, subst, ◌∙◌, arith}
 use Rattle.std.specs.Prelude.{slice_get}
 use Rattle.std.proofs.lemmas.Option.{same_Some}
-use Rattle.pac_base.specs.Members.{Mem}
 use Rattle.pac_value.specs.Expressions.{Values}
 use Rattle.pac_ops.specs.declared.note.Note.{Note}
 use Rattle.pac_ops.specs.declared.piece.PieceId.{PieceId}
@@ -34,7 +33,6 @@ use Rattle.pac_core.proofs.NextFirst.{next_first, ready_first}
 use Rattle.pac_core.proofs.OpenedSets.{passed}
 use Rattle.pac_core.proofs.PlacedTxns as txns
 use Rattle.pac_core.proofs.PlacedTxns.{first_placed}
-use Rattle.pac_core.proofs.Ready.{own_piece, set_at}
 use Rattle.pac_core.proofs.SetFacts.{batch_at}
 
 -- ---- it is ready

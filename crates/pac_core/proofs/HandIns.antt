@@ -9,7 +9,6 @@ use Rattle.pac_tables.specs.declared.writes.Write.{Write}
 use Rattle.pac_tables.specs.Written.{AreWithin, written}
 use Rattle.pac_piece.specs.declared.work.Work.{Work}
 use Rattle.pac_piece.specs.Values.{IsValueOf}
-use Rattle.pac_sched.specs.declared.state.PieceState.{PieceState}
 use Rattle.pac_sched.specs.declared.state.PieceState.TheVariants as state
 use Rattle.pac_sched.specs.Schedules.{with_state}
 use Rattle.pac_undo.specs.Undo.{Undoable}

@@ -1,7 +1,6 @@
 -- What stands at the place of a piece: its transaction, the values that are kept of it, and the cells of its access.
-use Rattle.std.proofs.Common.{◌≡◌, ℕ, ◌+◌, ◌-◌, ◌<◌, Bool, true, false, cond, List, length, Option, Some, None, refl, sym, ap, subst, ◌∙◌, arith}
+use Rattle.std.proofs.Common.{◌≡◌, ℕ, ◌+◌, ◌-◌, ◌<◌, List, length, Option, Some, sym, ap, subst, ◌∙◌, arith}
 use Rattle.std.specs.Prelude.{slice_get}
-use Rattle.std.specs.FinMap.{get}
 use Rattle.std.proofs.lemmas.List.{length-map}
 use Rattle.std.proofs.lemmas.Option.{same_Some, slice_get-get_or}
 use Rattle.pac_base.specs.Members.{Mem}
@@ -9,16 +8,12 @@ use Rattle.pac_value.specs.Expressions.{Values}
 use Rattle.pac_ops.specs.declared.batch.Batch.{Batch}
 use Rattle.pac_ops.specs.declared.piece.PieceId.{PieceId}
 use Rattle.pac_ops.specs.declared.transaction.Txn.{Txn}
-use Rattle.pac_plan.specs.Codes.{TxnFitsPlan}
-use Rattle.pac_plan.specs.Worlds.{txn_at}
 use Rattle.pac_sched.specs.declared.state.PieceState.{PieceState}
 use Rattle.pac_sched.specs.Schedules.{is_finished, is_out}
 use Rattle.pac_sched.proofs.PickLemmas.{stands}
 use Rattle.pac_sets.specs.declared.set_id.SetId.{SetId}
 use Rattle.pac_commute.specs.Loads.{Job}
 use Rattle.pac_commute.specs.Machine.{Machine, access_at, among}
-use Rattle.pac_commute.specs.PartialFits.{TxnIsOfPlan}
-use Rattle.pac_commute.specs.PlanLaws.{txns_of}
 use Rattle.pac_core.specs.declared.cells.PieceCells.{PieceCells}
 use Rattle.pac_core.specs.declared.loaded.LoadedBatch.{LoadedBatch}
 use Rattle.pac_core.specs.declared.place.Place.{Place}
@@ -27,14 +22,13 @@ use Rattle.pac_core.specs.declared.stage.OpenSet.{OpenSet}
 use Rattle.pac_core.specs.declared.stage.SetStage.{SetStage}
 use Rattle.pac_core.specs.declared.stage.SetStage.TheVariants.{Open}
 use Rattle.pac_core.specs.Cells.{AreOf}
-use Rattle.pac_core.specs.Inputs.{FindsInputs, is_found}
-use Rattle.pac_core.specs.Links.{IsOpened, KeepsBatch, KeepsInputs, KeepsProgress, batches_of, mark_in, piece_in, replay_so_far}
+use Rattle.pac_core.specs.Links.{IsOpened, KeepsBatch, KeepsProgress, batches_of, mark_in, piece_in, replay_so_far}
 use Rattle.pac_core.specs.Places.{AreCellsAt, AreValuesAt, IsPieceAt, IsTxnAt}
 use Rattle.pac_core.specs.Replay.{Replay, loaded_pieces, machine_of, present_of}
 use Rattle.pac_core.proofs.Lists.{at_map, at_mem, map_at}
-use Rattle.pac_core.proofs.Marks.{finished_is, fits_plan, out_is}
+use Rattle.pac_core.proofs.Marks.{finished_is, out_is}
 use Rattle.pac_core.proofs.Ready.{SetAt, mark_at, own_piece, set_at, txns}
-use Rattle.pac_core.proofs.SetFacts.{Stands, txn_there}
+use Rattle.pac_core.proofs.SetFacts.{Stands}
 
 module _ (job : Job) (p : Progress) (keeps : KeepsProgress job p) (place : Place) (piece : PieceId) (far : PieceState) (at : IsPieceAt p place piece far) where
   abbrev pub r : Replay

@@ -1,10 +1,8 @@
 -- What stands at the place of a piece, whatever is kept of its set: its transaction, and the values that are kept of it.
-use Rattle.std.proofs.Common.{◌≡◌, ℕ, ◌+◌, ◌-◌, ◌<◌, Bool, true, false, cond, List, ◌∷◌, length, Option, Some, None, refl, sym, ap, subst, ◌∙◌, arith}
+use Rattle.std.proofs.Common.{◌≡◌, ℕ, ◌+◌, ◌-◌, ◌<◌, Bool, true, false, cond, List, ◌∷◌, length, Some, None, refl, sym, ap, subst, ◌∙◌}
 use Rattle.std.specs.Prelude.{slice_get}
 use Rattle.std.specs.FinMap.{get}
-use Rattle.std.proofs.lemmas.List.{length-map}
-use Rattle.std.proofs.lemmas.Option.{same_Some, slice_get-get_or}
-use Rattle.pac_base.specs.Members.{Mem}
+use Rattle.std.proofs.lemmas.Option.{same_Some}
 use Rattle.pac_value.specs.Expressions.{Values}
 use Rattle.pac_ops.specs.declared.batch.Batch.{Batch}
 use Rattle.pac_ops.specs.declared.piece.PieceId.{PieceId}
@@ -12,29 +10,22 @@ use Rattle.pac_ops.specs.declared.transaction.Txn.{Txn}
 use Rattle.pac_plan.specs.Codes.{TxnFitsPlan}
 use Rattle.pac_plan.specs.Worlds.{txn_at}
 use Rattle.pac_sched.specs.declared.state.PieceState.{PieceState}
-use Rattle.pac_sched.specs.Schedules.{is_finished, is_out}
-use Rattle.pac_sched.proofs.PickLemmas.{stands}
 use Rattle.pac_sets.specs.declared.set_id.SetId.{SetId}
 use Rattle.pac_commute.specs.Loads.{Job}
-use Rattle.pac_commute.specs.Machine.{Machine, access_at, among}
 use Rattle.pac_commute.specs.PartialFits.{TxnIsOfPlan}
 use Rattle.pac_commute.specs.PlanLaws.{txns_of}
-use Rattle.pac_core.specs.declared.cells.PieceCells.{PieceCells}
 use Rattle.pac_core.specs.declared.loaded.LoadedBatch.{LoadedBatch}
 use Rattle.pac_core.specs.declared.place.Place.{Place}
 use Rattle.pac_core.specs.declared.progress.Progress.{Progress}
-use Rattle.pac_core.specs.declared.stage.OpenSet.{OpenSet}
-use Rattle.pac_core.specs.declared.stage.SetStage.{SetStage}
 use Rattle.pac_core.specs.declared.stage.SetStage.TheVariants.{Open, Waiting}
-use Rattle.pac_core.specs.Cells.{AreOf}
 use Rattle.pac_core.specs.Inputs.{FindsInputs, is_found}
-use Rattle.pac_core.specs.Links.{IsOpened, KeepsBatch, KeepsInputs, KeepsProgress, batches_of, mark_in, piece_in, replay_so_far}
+use Rattle.pac_core.specs.Links.{KeepsBatch, KeepsInputs, KeepsProgress, batches_of, replay_so_far}
 use Rattle.pac_core.specs.Moves.{IsFirstLeft}
 use Rattle.pac_core.specs.Places.{AreValuesAt, IsPieceAt, IsPlaceOf, IsTxnAt}
-use Rattle.pac_core.specs.Replay.{Replay, loaded_pieces, machine_of, present_of}
-use Rattle.pac_core.proofs.Lists.{at_map, at_mem, map_at}
-use Rattle.pac_core.proofs.Marks.{finished_is, fits_plan, out_is}
-use Rattle.pac_core.proofs.Ready.{SetAt, mark_at, own_piece, set_at, txns}
+use Rattle.pac_core.specs.Replay.{Replay, present_of}
+use Rattle.pac_core.proofs.Lists.{at_map}
+use Rattle.pac_core.proofs.Marks.{fits_plan}
+use Rattle.pac_core.proofs.Ready.{SetAt, set_at}
 use Rattle.pac_core.proofs.SetFacts.{Stands, txn_there}
 
 -- a piece of an open set has its place

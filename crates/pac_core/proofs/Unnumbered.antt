@@ -6,9 +6,9 @@ use Rattle.pac_ops.specs.declared.transaction.Change.{Change}
 use Rattle.pac_ops.specs.declared.transaction.Change.TheVariants.{Put as PutRow, Delete as DeleteRow}
 use Rattle.pac_ops.specs.declared.transaction.Txn.{Txn}
 use Rattle.pac_ops.specs.declared.transaction.Txn.TheVariants.{Call as ACall, AdHoc}
-use Rattle.pac_ops.specs.Uses.{accessed_table, defined_variable, op_uses}
+use Rattle.pac_ops.specs.Uses.{accessed_table}
 use Rattle.pac_ops.specs.Operations.{State}
-use Rattle.pac_ops.specs.Effects.{NumberedOp, numbered_from, defined_in, used_in, is_var, record_op}
+use Rattle.pac_ops.specs.Effects.{NumberedOp, numbered_from, is_var, record_op}
 use Rattle.pac_plan.specs.declared.parts.PlanParts.{PlanParts}
 use Rattle.pac_plan.specs.PieceFits.{change_table, records_in}
 use Rattle.pac_plan.specs.Pieces.{part}

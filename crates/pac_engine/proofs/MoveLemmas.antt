@@ -1,8 +1,6 @@
 -- What an engine keeps, from one move to the next.
-use Rattle.std.proofs.Common.{◌≡◌, ◌∙◌, ℕ, ◌+◌, ◌<◌, ◌≤◌, Bool, true, false, List, [], ◌∷◌, ◌++◌, length, Option, Some, None, Result, Ok, Err, refl, sym, ap, subst, arith, length-append}
-use Rattle.std.specs.Prelude.{nat_lt, if◌then◌else◌}
+use Rattle.std.proofs.Common.{◌≡◌, ◌∙◌, ℕ, ◌+◌, ◌<◌, ◌≤◌, List, [], ◌∷◌, ◌++◌, length, Option, Some, None, Result, Ok, Err, sym, ap, arith, length-append}
 use Rattle.std.specs.List.{AllByRecursion}
-use Rattle.std.proofs.lemmas.Bool.{ltb-false}
 use Rattle.pac_value.specs.State.{Tables}
 use Rattle.pac_ops.specs.declared.transaction.Txn.{Txn}
 use Rattle.pac_serial.specs.declared.execute.ExecError.{ExecError}
@@ -11,24 +9,15 @@ use Rattle.pac_request.specs.declared.request.Request.{Request}
 use Rattle.pac_request.specs.declared.request.Request.TheVariants as request
 use Rattle.pac_request.specs.declared.request.Reply.{Reply}
 use Rattle.pac_request.specs.declared.request.Reply.TheVariants as reply
-use Rattle.pac_log.specs.declared.position.NextGate.{NextGate}
-use Rattle.pac_check.specs.declared.head.Head.{Head}
 use Rattle.pac_check.specs.declared.info.SlotInfo.{SlotInfo}
-use Rattle.pac_check.specs.declared.info.SlotName.{SlotName}
-use Rattle.pac_check.specs.declared.info.SlotName.TheVariants.{A, B}
-use Rattle.pac_check.specs.declared.slots.Slots.{Slots}
-use Rattle.pac_check.specs.declared.state.SlotState.{SlotState}
-use Rattle.pac_check.specs.declared.state.SlotState.TheVariants.{Open as OpenSlot}
-use Rattle.pac_check.specs.Checkpoints.{head_with}
-use Rattle.pac_check.specs.SlotStates.{by_slot, info_of, newest_of, saved_txns, spare_of, with_more}
+use Rattle.pac_check.specs.declared.info.SlotName.TheVariants.{A}
+use Rattle.pac_check.specs.SlotStates.{saved_txns}
 use Rattle.pac_session.specs.Session.{SessionState, answer, after_asked, commits_asked, committed_by, reply_by, txn_of, txn_outcome}
 use Rattle.pac_session.specs.Open.{Open, rules_of, state_now, with_asked, with_run}
 use Rattle.pac_engine.specs.declared.parts.EngineParts.{EngineParts}
 use Rattle.pac_engine.specs.Closing.{IsKept}
-use Rattle.pac_engine.specs.Moves.{AreHeld, IsHeldBy, IsLive, IsUnmoved, IsWorking, committed_parts, saved_parts, with_request}
-use Rattle.pac_engine.specs.Standing.{OnlyGrows, durable_of, reach_of, saved_of}
-use Rattle.pac_engine.proofs.SavingLemmas.{saves-all}
-use Rattle.pac_engine.proofs.BodyLemmas.{txns-after}
+use Rattle.pac_engine.specs.Moves.{AreHeld, IsHeldBy, IsWorking}
+use Rattle.pac_engine.specs.Standing.{durable_of, reach_of, saved_of}
 
 -- ---- a request whose transaction is executed
 

@@ -3,11 +3,10 @@ use Rattle.std.proofs.Common.{◌≡◌, ◌⊎◌, ◌+◌, ℕ, Bool, true, fa
 use Rattle.std.proofs.lemmas.Bool.{ltb-true, ltb-false}
 use Rattle.std.proofs.lemmas.List.Folds.{list_any-append}
 use Rattle.std.specs.Io.KnownBytes.{prepend_known}
-use Rattle.std.proofs.KnownBytes.{prepend_known-nil}
 use Rattle.pac_outside.specs.Content.{Gave, IsAtEnd}
 use Rattle.pac_outside.proofs.ContentLemmas.{Gave-append}
 use Rattle.pac_lines.specs.Lines.{HandsOut, has_feed, HasFeed, HasNoFeed, IsEndedLine, IsLastLine}
-use Rattle.pac_lines.specs.Reading.{AheadState, HasNoLine, ReaderState}
+use Rattle.pac_lines.specs.Reading.{HasNoLine, ReaderState}
 use Rattle.pac_lines.specs.Calls.{AnswersLine, Calls, IsCall, known, IsChunk, IsReadOn, Keeps}
 use Rattle.pac_lines.specs.declared.line_error.LineError.{LineError}
 use Rattle.pac_lines.specs.declared.line_error.LineError.TheVariants.{Failed, TooLong, NoMemory}

@@ -1,6 +1,6 @@
 -- The steps by which what stands after an open gate is read.
 use Rattle.std.proofs.Common.{◌≡◌, ◌∙◌, ℕ, ◌+◌, ◌<◌, ◌≤◌, Bool, true, false, eqb, ltb, List, length, take, drop, Result, Ok, Err, IfOk, refl, sym, ap, subst, arith}
-use Rattle.std.proofs.lemmas.Bool.{le-ltb, lt-ltb, eq-eqb, eqb-true}
+use Rattle.std.proofs.lemmas.Bool.{le-ltb, eq-eqb, eqb-true}
 use Rattle.std.proofs.lemmas.List.{length-take, length-drop, drop-take, drop-drop}
 use Rattle.pac_base.specs.declared.refusal.Refusal.{Refusal}
 use Rattle.pac_base.specs.declared.refusal.Refusal.TheVariants.{Fault, NoMemory}

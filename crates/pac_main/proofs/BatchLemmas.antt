@@ -1,16 +1,11 @@
 -- The batches of a script run on from the first transaction.
-use Rattle.std.proofs.Common.{◌≡◌, ℕ, ◌+◌, ◌-◌, ◌^◌, ◌<◌, List, [], ◌∷◌, length, Result, Err, refl, sym, subst, arith}
+use Rattle.std.proofs.Common.{◌≡◌, ℕ, ◌+◌, ◌-◌, ◌^◌, ◌<◌, List, [], ◌∷◌, length, refl, subst, arith}
 use Rattle.std.proofs.lemmas.List.{length-append}
-use Rattle.pac_value.specs.State.{Tables}
 use Rattle.pac_ops.specs.declared.batch.Batch.{Batch}
-use Rattle.pac_ops.specs.declared.note.Note.{Note}
 use Rattle.pac_ops.specs.declared.transaction.Txn.{Txn}
-use Rattle.pac_serial.specs.declared.serial.AllError.{AllError}
-use Rattle.pac_serial.specs.declared.serial.AllError.TheVariants.{Abort, NoMemory}
 use Rattle.pac_recover.specs.Gates.{RunOn, txns_in}
 use Rattle.pac_script.specs.Batches.{as_batches}
 use Rattle.pac_script.specs.BatchFits.{BatchesHaveNumbers}
-use Rattle.pac_main.specs.Replay.{DoesEnd}
 
 made : (before : ℕ) (parts : List (List Txn)) → RunOn before (as_batches (before + 1) parts)
 made before [] = tt

@@ -1,11 +1,11 @@
 -- What the bytes that were read say of the input.
-use Rattle.std.proofs.Common.{◌≡◌, ◌≤◌, ◌<◌, ℕ, List, ◌++◌, length, Option, Some, None, Result, Ok, Err, refl, sym, ap, subst, ◌∙◌, arith, length-append}
+use Rattle.std.proofs.Common.{◌≡◌, ◌≤◌, ℕ, List, ◌++◌, length, Option, Some, None, Result, Ok, Err, refl, sym, ap, subst, ◌∙◌}
 use Rattle.std.specs.Prelude.{IfSome, IfErr}
 use Rattle.std.specs.Io.KnownBytes.{prepend_known}
 use Rattle.std.proofs.lemmas.List.{append-nil}
 use Rattle.pac_base.specs.declared.refusal.Refusal.{Refusal}
 use Rattle.pac_base.specs.declared.refusal.Refusal.TheVariants as refusal
-use Rattle.pac_outside.specs.Content.{Gave, GaveAtMost, IsAtEnd}
+use Rattle.pac_outside.specs.Content.{Gave, IsAtEnd}
 use Rattle.pac_outside.specs.declared.failed.ReadError.{ReadError}
 use Rattle.pac_outside.specs.declared.failed.ReadError.TheVariants as read
 use Rattle.pac_request.specs.Answers.{AnswersBy}

@@ -6,7 +6,6 @@ use Rattle.pac_syntax.proofs.OneReading.{reads_once}
 use Rattle.pac_print.specs.Canonical.{canonical}
 use Rattle.pac_types.specs.Typing.{CatalogueState}
 use Rattle.pac_types.specs.Fits.{shape}
-use Rattle.pac_types.proofs.OneCatalogue.{same_tree}
 use Rattle.pac_types.proofs.TypingLemmas.{one_catalogue}
 use Rattle.pac_flat.specs.FlatForm.{program_of}
 use Rattle.pac_ops.specs.declared.program.Program.{Program}

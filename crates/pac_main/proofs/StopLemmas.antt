@@ -1,17 +1,15 @@
 -- A stop has the cause of what came before it, and the command ends by the stop that is reported.
-use Rattle.std.proofs.Common.{◌≡◌, ◌⊎◌, ℕ, Bool, [], ◌∷◌, Ok, Err, inl, inr, refl, sym, subst, arith, true, false}
+use Rattle.std.proofs.Common.{◌≡◌, ◌⊎◌, ℕ, Bool, [], ◌∷◌, Ok, inl, inr, refl, sym, subst, arith, true, false}
 use Rattle.std.specs.Prelude.{IsTrue}
 use Rattle.pac_value.specs.State.{Tables}
 use Rattle.pac_recover.specs.Limits.{IsFirstOver}
 use Rattle.pac_recover.specs.declared.limit.TooManyRows.{TooManyRows}
 use Rattle.pac_script.specs.declared.script.Script.{Script}
-use Rattle.pac_serial.specs.declared.serial.AllError.{AllError}
-use Rattle.pac_serial.specs.declared.serial.AllError.TheVariants as serial
 use Rattle.pac_main.specs.Causes.{GivesNoScript, GivesNoExplanation, GivesNoText, ScriptStops, ReplayStops, ExplainStops, InitStops}
 use Rattle.pac_main.specs.Explained.{ExplainEnds}
 use Rattle.pac_main.specs.Init.{AreUntouched, InitEnds, IsAcceptedInput}
-use Rattle.pac_main.specs.Replay.{DoesEnd, IsScriptOf, ReplayEnds, outcome}
-use Rattle.pac_main.specs.Stop.{line_of, status_of, stop_of_excess, stop_of_input, stop_of_serial, takes_memory}
+use Rattle.pac_main.specs.Replay.{IsScriptOf, ReplayEnds, outcome}
+use Rattle.pac_main.specs.Stop.{line_of, status_of, stop_of_excess, stop_of_input, takes_memory}
 use Rattle.pac_main.specs.Streams.{IsOneOf, IsReported, Observed, ObservedDevices}
 use Rattle.pac_main.specs.declared.input.InputError.{InputError}
 use Rattle.pac_main.specs.declared.input.InputError.TheVariants as input

@@ -25,10 +25,6 @@ use Rattle.pac_store.proofs.StandsLemmas.{newest-one}
 use Rattle.pac_recover.specs.declared.gates.GatePlace.{GatePlace}
 use Rattle.pac_recover.specs.declared.passing.PassedLog.{PassedLog}
 use Rattle.pac_recover.specs.declared.scanning.Scanned.{Scanned}
-use Rattle.pac_recover.specs.declared.errors.Damage.{Damage}
-use Rattle.pac_recover.specs.declared.errors.LoadError.{LoadError}
-use Rattle.pac_recover.specs.declared.errors.LoadError.TheVariants as load
-use Rattle.pac_recover.specs.declared.errors.RecoverError.TheVariants as recover
 use Rattle.pac_recover.specs.Damages.{IsAmongGates, IsDamagedSlot, IsSlotDamage}
 use Rattle.pac_recover.specs.Ends.{EndsSo}
 use Rattle.pac_recover.specs.Loading.{AreNewestOf, IsInfoAmong}

@@ -2,7 +2,6 @@
 use Rattle.std.proofs.Common.{◌≡◌, ◌≤◌, ◌<◌, ◌+◌, ℕ, true, false, true≢false, List, [], ◌∷◌, length, Option, Some, None, is_some, refl, sym, ap, subst, arith}
 use Rattle.pac_value.specs.State.{Tables}
 use Rattle.pac_ops.specs.declared.batch.Batch.{Batch}
-use Rattle.pac_outside.specs.Causes.{one_more}
 use Rattle.pac_outside.specs.Disk.{DiskHistory}
 use Rattle.pac_types.specs.declared.procedure.Proc.{Proc}
 use Rattle.pac_types.specs.Execution.{serial}
@@ -13,7 +12,7 @@ use Rattle.pac_log.specs.declared.position.NextGate.{NextGate}
 use Rattle.pac_recover.specs.declared.execution.Execution.{Execution}
 use Rattle.pac_recover.specs.declared.log_feed.FeedEnd.{FeedEnd}
 use Rattle.pac_recover.specs.declared.log_feed.FeedEnd.TheVariants.{Window, End, Refused}
-use Rattle.pac_recover.specs.FedLogs.{AreBodiesCounted, AreCounted, EndsAs, FillsAs, IsGivenOfLog, IsPartOf, OfKnownLog, bodies_len, is_end, refusal_of}
+use Rattle.pac_recover.specs.FedLogs.{AreBodiesCounted, EndsAs, FillsAs, IsGivenOfLog, IsPartOf, OfKnownLog, bodies_len, is_end, refusal_of}
 use Rattle.pac_recover.specs.Gates.{txns_in}
 use Rattle.pac_recover.specs.Outcomes.{outcome_of}
 use Rattle.pac_recover.specs.Rereading.{IsWindow}

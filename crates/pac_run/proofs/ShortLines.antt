@@ -1,13 +1,12 @@
 -- A reader that leaves bytes of long lines out, beside one that leaves nothing out: a line says the same, and each takes a byte.
-use Rattle.std.proofs.Common.{◌≡◌, ◌⊎◌, ℕ, ◌+◌, ◌<◌, ◌≤◌, Bool, true, false, ltb, List, [], ◌∷◌, ◌++◌, length, take, Option, Result, Ok, Err, inl, inr, refl, sym, ap, subst, ◌∙◌, arith}
-use Rattle.std.specs.Prelude.{IsErrOf}
+use Rattle.std.proofs.Common.{◌≡◌, ◌⊎◌, ℕ, ◌+◌, ◌<◌, ◌≤◌, Bool, true, false, ltb, List, [], ◌∷◌, ◌++◌, length, take, Option, Result, Ok, inl, inr, refl, sym, ap, subst, ◌∙◌, arith}
 use Rattle.std.proofs.lemmas.Bool.{ltb-true, ltb-false}
 use Rattle.std.proofs.lemmas.List.{length-append, length-take-le, take_all}
 use Rattle.pac_outside.specs.Content.{IsAtEnd}
 use Rattle.pac_outside.specs.Disk.{DiskHistory}
 use Rattle.pac_outside.specs.declared.devices.Devices.{Devices}
 use Rattle.pac_lines.specs.Calls.{IsCall, KeepsLimit}
-use Rattle.pac_lines.specs.Lines.{HasNoFeed, IsEndedLine, IsLastLine}
+use Rattle.pac_lines.specs.Lines.{IsEndedLine, IsLastLine}
 use Rattle.pac_lines.specs.Reading.{ReaderState}
 use Rattle.pac_lines.specs.Short.{IsShort, IsShortOf, ShortState}
 use Rattle.pac_lines.specs.declared.line_error.LineError.{LineError}

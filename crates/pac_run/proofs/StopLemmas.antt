@@ -1,5 +1,5 @@
 -- Where a run stops, and which replies it was to write.
-use Rattle.std.proofs.Common.{◌≡◌, ◌∙◌, ◌⊎◌, inl, inr, ℕ, true, List, [], ◌∷◌, ◌++◌, Option, refl, sym, ap, ap₂, subst, append_assoc}
+use Rattle.std.proofs.Common.{◌≡◌, ◌∙◌, ◌⊎◌, inl, inr, ℕ, List, [], ◌∷◌, ◌++◌, Option, refl, sym, ap, ap₂, subst, append_assoc}
 use Rattle.std.proofs.lemmas.List.{append-nil}
 use Rattle.pac_outside.specs.Disk.{DiskHistory}
 use Rattle.pac_outside.specs.declared.devices.Devices.{Devices}
@@ -15,7 +15,7 @@ use Rattle.pac_session.proofs.CutLemmas.{joined-append, whole-cut, described-rep
 use Rattle.pac_engine.specs.declared.fault.EngineCause.{EngineCause}
 use Rattle.pac_engine.specs.declared.fault.EngineCause.TheVariants as cause
 use Rattle.pac_engine.specs.declared.parts.EngineParts.{EngineParts}
-use Rattle.pac_engine.specs.Closing.{Closes, IsUnsaved, StopsAt, is_stop, place_after}
+use Rattle.pac_engine.specs.Closing.{Closes, IsUnsaved, StopsAt, place_after}
 use Rattle.pac_engine.proofs.LawLemmas.{stops-then}
 use Rattle.pac_run.specs.Asked.{NoStop, StopsLast}
 use Rattle.pac_run.specs.Causes.{stop_of_engine}

@@ -2,7 +2,7 @@
 use Rattle.std.proofs.Common.{◌≡◌, ◌≢◌, ℕ, suc, ◌+◌, ◌-◌, ◌<◌, ◌≤◌, Bool, true, false, cond, not, ◌&&◌, ◌==◌, List, [], ◌∷◌, ◌++◌, map, take, length, get_or, replicate, refl, sym, ap, ◌∙◌, subst, ⊎_elim, ◌⊎◌, Some, arith, true≢false}
 use Rattle.std.specs.Prelude.{slice_get, slice_index, slice_index_or, slice_set}
 use Rattle.std.proofs.lemmas.Bool.Decides.{nat_tests}
-use Rattle.std.proofs.lemmas.List.{get_or-set_same, get_or-set_other, length-set, length-append, length-map, length-replicate, get_or_append_left, get_or-append_right, get_or-replicate, get_or-map, get_or_default, ext_get_or, map_more, append_assoc, take_all}
+use Rattle.std.proofs.lemmas.List.{get_or-set_same, get_or-set_other, length-set, length-append, length-map, length-replicate, get_or_append_left, get_or-append_right, get_or-replicate, get_or-map, get_or_default, ext_get_or, take_all}
 use Rattle.std.proofs.lemmas.List.Elements.{All-append, All-weaker, All-map}
 use Rattle.std.proofs.lemmas.Option.{slice_get-get_or}
 use Rattle.pac_plan.specs.Pairs.{AreEarlierLater}

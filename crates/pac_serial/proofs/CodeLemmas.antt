@@ -7,7 +7,7 @@ use Rattle.pac_ops.specs.declared.program.OpKind.TheVariants as kind
 use Rattle.pac_types.specs.declared.statement.Stmt.{Stmt}
 use Rattle.pac_types.specs.Meaning.{count_step, stmt_operations, operations}
 use Rattle.pac_types.specs.Unrolled.{turns}
-use Rattle.pac_types.proofs.StmtShapes.{form_of, is_test, IsOne, IsConditional, IsLoop, by_shape, all_by_shape}
+use Rattle.pac_types.proofs.StmtShapes.{form_of, is_test, IsOne, IsConditional, IsLoop, all_by_shape}
 use Rattle.pac_types.proofs.UnrolledLemmas.{operations-one}
 use Rattle.pac_serial.specs.TextMeaning.{Code, one, code_step, code, code_count}
 

@@ -1,12 +1,10 @@
 -- The flow of a procedure's operations as edges of a graph, one operation after another.
-use Rattle.std.proofs.Common.{◌≡◌, ◌↔◌, ℕ, ◌+◌, ◌<◌, ◌≤◌, true, false, List, length, Some, None, sym, ◌∙◌, subst, arith, true≢false}
-use Rattle.std.specs.Prelude.{slice_get}
-use Rattle.std.proofs.lemmas.Option.{same_Some, none-some}
+use Rattle.std.proofs.Common.{◌≡◌, ◌↔◌, ℕ, ◌+◌, ◌<◌, ◌≤◌, List, length, Some, subst, arith}
 use Rattle.pac_ops.specs.declared.program.FlatOp.{FlatOp}
-use Rattle.pac_ops.specs.Uses.{op_uses, defined_variable}
+use Rattle.pac_ops.specs.Uses.{defined_variable}
 use Rattle.pac_ops.specs.Dependencies.{IsFlow}
-use Rattle.pac_base.proofs.ItemLemmas.{there, so, inside}
-use Rattle.pac_graph.specs.Adding.{IsTheEdge, IsUpTo}
+use Rattle.pac_base.proofs.ItemLemmas.{inside}
+use Rattle.pac_graph.specs.Adding.{IsUpTo}
 use Rattle.pac_slice.specs.Dependent.{IsFlowAt, IsFlowFrom}
 
 module _ (ops : List FlatOp) (first : ℕ) where

@@ -1,11 +1,10 @@
 -- The bank's tree is typed, and has the bank's catalogue; its operations are few.
-use Rattle.std.proofs.Common.{◌≡◌, ◌≤◌, ℕ, ◌+◌, List, [], ◌∷◌, length, map, true, Option, Some, Result, Ok, Err, refl, sym, ap, subst, ◌∙◌, arith}
+use Rattle.std.proofs.Common.{◌≡◌, ◌≤◌, ℕ, ◌+◌, List, [], ◌∷◌, length, map, Some, Result, Ok, Err, refl, sym, ap, subst, ◌∙◌, arith}
 use Rattle.std.specs.Prelude.{codes}
 use Rattle.std.proofs.lemmas.List.Elements.{All-from_recursion}
 use Rattle.pac_base.specs.Refusals.{Only}
 use Rattle.pac_base.specs.declared.refusal.Refusal.{Refusal}
 use Rattle.pac_base.specs.declared.refusal.Refusal.TheVariants as refusal
-use Rattle.pac_value.specs.declared.values.Ty.{Ty}
 use Rattle.pac_value.specs.declared.values.Ty.TheVariants.{Int as IntTy, Bool as BoolTy}
 use Rattle.pac_value.specs.declared.values.Value.{Value}
 use Rattle.pac_value.specs.declared.expr.BinOp.{BinOp}
@@ -14,7 +13,6 @@ use Rattle.pac_value.specs.Expressions.{◌>>=◌}
 use Rattle.pac_value.specs.Scopes.{is_wanted}
 use Rattle.pac_value.specs.declared.expr.Expr.{Expr}
 use Rattle.pac_value.specs.declared.expr.Expr.{Lit, Var, Bin}
-use Rattle.pac_value.specs.Values.{type_of}
 use Rattle.pac_syntax.specs.declared.tree.NameNode.{NameNode}
 use Rattle.pac_syntax.specs.declared.tree.LiteralNode.{LiteralNode}
 use Rattle.pac_syntax.specs.declared.tree.ExprNode.{ExprNode, Literal, Name, Binary}
@@ -34,10 +32,10 @@ use Rattle.pac_types.specs.CatalogueText.{HasCatalogue}
 use Rattle.pac_types.specs.Checking.{Cells, Fields, Reported, ScopeState, block, checked_block, checked_params, checked_proc, checked_procs, checked_read, checked_run, checked_step, checked_stmt, checked_stmt_step, checked_tables, checked_test, checked_values, checked_wanted, first_time, hidden_in, known_at, left_at, operands, same_count, taken, with_variable}
 use Rattle.pac_types.specs.Faults.{same_ty}
 use Rattle.pac_types.specs.WellFormed.{column_types, key_type}
-use Rattle.pac_types.specs.Meaning.{count_step, operations, stmt_operations, together}
+use Rattle.pac_types.specs.Meaning.{count_step, operations, stmt_operations}
 use Rattle.pac_types.specs.Numbering.{column_number, column_of, number_of, table_number, variables}
 use Rattle.pac_types.specs.OperationLimits.{HasFewOperations}
-use Rattle.pac_types.specs.Typing.{CatalogueState, Types}
+use Rattle.pac_types.specs.Typing.{CatalogueState}
 use Rattle.pac_types.proofs.StmtForms.{at-Read, at-Put, at-If}
 use Rattle.pac_types.proofs.TypingLemmas.{tree_typed}
 use Rattle.pac_bank.specs.BankText.{bank_text}

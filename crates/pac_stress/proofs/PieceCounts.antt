@@ -1,5 +1,5 @@
 -- Transactions have at most a piece for each block.
-use Rattle.std.proofs.Common.{◌≡◌, ◌≤◌, ◌<◌, ℕ, suc, ◌+◌, ◌*◌, ◌^◌, ap, Bool, true, false, List, [], ◌∷◌, ◌++◌, length, length-append, arith}
+use Rattle.std.proofs.Common.{◌≤◌, ◌<◌, ℕ, suc, ◌*◌, ◌^◌, ap, Bool, true, false, List, [], ◌∷◌, length, length-append, arith}
 use Rattle.std.specs.Prelude.{if◌then◌else◌}
 use Rattle.std.proofs.lemmas.List.FromFn.{length-range_with_len}
 use Rattle.pac_ops.specs.declared.batch.Batch.{Batch}

@@ -3,7 +3,7 @@ use Rattle.std.proofs.Common.{◌≡◌, ◌≢◌, ℕ, zero, suc, ℤ, ◌+◌
 use Rattle.std.specs.Prelude.{nat_eq, nat_le, nat_lt, MatchOption, if◌then◌else◌}
 use Rattle.std.proofs.lemmas.Bool.{lt-ltb, le-ltb, eqb-true, le-leb, lt-leb, leb-true, leb-false, eqb-false, ltb-true, eq-eqb}
 use Rattle.std.proofs.lemmas.List.{length-append}
-use Rattle.pac_base.specs.Refusals.{Fails, Gives, OkUnlessMemory}
+use Rattle.pac_base.specs.Refusals.{Fails, Gives}
 use Rattle.pac_value.specs.declared.values.Ty.{Ty}
 use Rattle.pac_value.specs.declared.values.Value.{Value}
 use Rattle.pac_value.specs.declared.values.Value.TheVariants as value

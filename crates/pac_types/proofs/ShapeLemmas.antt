@@ -1,10 +1,8 @@
 -- What fits the types of a catalogue's tables, by the types of the tables' keys and columns.
-use Rattle.std.proofs.Common.{◌≡◌, ℕ, ◌<◌, List, map, length, Option, Some, None, IsSomeAnd, refl, sym, ap, subst}
+use Rattle.std.proofs.Common.{◌≡◌, ℕ, List, map, Option, Some, None, IsSomeAnd, sym, ap, subst}
 use Rattle.std.specs.Prelude.{slice_get}
 use Rattle.std.specs.Option.{option_map}
-use Rattle.std.proofs.lemmas.Option.{slice_get-map, slice_get_within}
-use Rattle.pac_value.specs.declared.values.Ty.{Ty}
-use Rattle.pac_value.specs.declared.values.Key.{Key}
+use Rattle.std.proofs.lemmas.Option.{slice_get-map}
 use Rattle.pac_value.specs.Values.{type_of, key_value}
 use Rattle.pac_value.specs.State.{Cell, RowValues}
 use Rattle.pac_ops.specs.declared.shapes.TableTypes.{TableTypes}

@@ -10,7 +10,7 @@ use Rattle.pac_value.specs.State.{Cell, cell_cmp, RowValues, Tables}
 use Rattle.pac_value.proofs.CellLemmas.{cells_total, cells_antisymmetric, tied_same}
 use Rattle.pac_tables.specs.declared.writes.Write.{Write}
 use Rattle.pac_tables.specs.Written.{AreWithin, cell_written, is_written, written}
-use Rattle.pac_undo.specs.Images.{AreKept, HaveBeforeImages, before_image_at}
+use Rattle.pac_undo.specs.Images.{HaveBeforeImages, before_image_at}
 use Rattle.pac_undo.specs.Undo.{Undoable}
 use Rattle.pac_undo.proofs.ImageLemmas.{get-written, noted-same, written-image, written-last_cell}
 

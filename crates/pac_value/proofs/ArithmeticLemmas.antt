@@ -10,7 +10,7 @@ use Rattle.pac_value.specs.declared.expr.BinOp.{BinOp}
 use Rattle.pac_value.specs.declared.expr.BinOp.TheVariants.{Add, Sub, Mul, Div, Rem, Eq, Ne, Lt, Le, Gt, Ge, And, Or}
 use Rattle.pac_value.specs.declared.expr.Expr.{Expr, Bin}
 use Rattle.pac_value.proofs.ByForms.{fold-Bin}
-use Rattle.pac_value.specs.Expressions.{Values, value, value_step, type_in, type_step, is_arithmetic, operator_type, arithmetic_type, equality_type, order_type, logic_type, joined, applied, ◌>>=◌}
+use Rattle.pac_value.specs.Expressions.{Values, value, value_step, type_in, type_step, is_arithmetic, operator_type, arithmetic_type, joined, applied, ◌>>=◌}
 
 -- an int decides nothing
 pub joined_int : (op : BinOp) (a : ℤ) (right : Result Value Trap) → joined op (Int a) right ≡ (right >>= λ b. applied op (Int a) b)

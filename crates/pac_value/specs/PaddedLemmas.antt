@@ -1,6 +1,6 @@
 -- An array of padded bytes is given by the bytes that count, and a copy into zeros is padded.
 use Rattle.std.proofs.Common.{◌≡◌, ◌≤◌, ◌-◌, ℕ, List, ◌++◌, length, take, drop, replicate, arith, ap, ◌∙◌, length-append}
-use Rattle.std.proofs.lemmas.List.{take-append-drop, length-take-le, take_at, drop_at, drop-replicate, length-replicate}
+use Rattle.std.proofs.lemmas.List.{take-append-drop, length-take-le, drop_at, drop-replicate, length-replicate}
 use Rattle.pac_value.specs.Padded.{IsPadded, padded}
 
 pub padded-take : (n : ℕ) (bytes : List ℕ) (len : ℕ) → IsPadded n bytes len → padded n (take len bytes) ≡ bytes

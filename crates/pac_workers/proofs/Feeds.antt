@@ -1,14 +1,12 @@
 -- What was given is loaded: at first, with one batch more, and at the end.
-use Rattle.std.proofs.Common.{◌≡◌, ℕ, ◌+◌, Bool, true, false, List, [], ◌∷◌, ◌++◌, length, refl, sym, ◌∙◌, subst}
-use Rattle.std.specs.List.{AllByRecursion}
+use Rattle.std.proofs.Common.{◌≡◌, ℕ, Bool, true, false, List, [], refl, subst}
 use Rattle.pac_value.specs.declared.values.Ty.{Ty}
 use Rattle.pac_ops.specs.declared.batch.Batch.{Batch}
 use Rattle.pac_ops.specs.declared.shapes.TableTypes.{TableTypes}
-use Rattle.pac_ops.specs.Shapes.{TxnFitsTypes}
 use Rattle.atomic_table.specs.Seated.{TableId}
 use Rattle.atomic_table.specs.declared.shared.Seat.{Seat}
 use Rattle.pac_workers.specs.Fed.{AreAlikeIn, IsLoadedSoFar}
-use Rattle.pac_workers.specs.Shown.{IsFed, Tells, TellsMore, with_each}
+use Rattle.pac_workers.specs.Shown.{IsFed, Tells, with_each}
 use Rattle.pac_workers.proofs.Showing.{same_told}
 
 module _ {F M : Type 0} (gives : F → List Batch → F → Type 0) (feed_next : F → ℕ) (feed_params : F → List (List Ty)) (feed_tables : F → List TableTypes)

@@ -1,13 +1,10 @@
 -- What twins tell, and jobs with one batch more.
-use Rattle.std.proofs.Common.{◌≡◌, ℕ, Bool, List, [], ◌∷◌, ◌++◌, length, refl, sym, ap, ◌∙◌, arith}
+use Rattle.std.proofs.Common.{◌≡◌, ℕ, Bool, List, [], ◌∷◌, length, refl, sym, ap, ◌∙◌, arith}
 use Rattle.std.specs.Coded.{Coded}
-use base.Stored.{Gv}
 use Rattle.atomic_table.specs.Seated.{TableId}
-use Rattle.atomic_table.specs.Table.{Me}
 use Rattle.atomic_table.specs.declared.shared.Seat.{Seat}
-use Rattle.pac_ops.specs.declared.batch.Batch.{Batch}
 use Rattle.pac_twins.specs.Twins.{IsShown}
-use Rattle.pac_workers.specs.Shown.{Tells, TellsJob, shown_closed, shown_job, with_each}
+use Rattle.pac_workers.specs.Shown.{Tells, TellsJob, shown_closed, shown_job}
 
 module _ {M : Type 0} (job : M → M) (is_closed : M → Bool) where
   -- one is shown, of this job

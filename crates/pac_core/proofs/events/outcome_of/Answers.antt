@@ -1,5 +1,5 @@
 -- By what the core has for the piece.
-use Rattle.std.proofs.Common.{Result, Ok, Err, refl, sym, ap, subst, ◌∙◌}
+use Rattle.std.proofs.Common.{Result, Ok, Err, sym, ap, subst, ◌∙◌}
 use Rattle.std.specs.Prelude.{IfOk}
 use Rattle.std.specs.FinMap.{get}
 use Rattle.pac_base.specs.declared.no_memory.NoMemory.{NoMemory}
@@ -10,7 +10,6 @@ use Rattle.pac_plan.specs.declared.code.Code.{Code}
 use Rattle.pac_plan.specs.Codes.{code_in}
 use Rattle.pac_piece.specs.declared.on_tables.PieceOutcome.{PieceOutcome}
 use Rattle.pac_piece.specs.Values.{IsEndOver}
-use Rattle.pac_sched.specs.declared.state.PieceState.TheVariants as state
 use Rattle.pac_core.specs.declared.progress.Progress.{Progress}
 use Rattle.pac_core.specs.Links.{core_of}
 use Rattle.pac_core.specs.Results.{IsResultAmong}

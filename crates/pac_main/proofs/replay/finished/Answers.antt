@@ -1,10 +1,6 @@
 -- Tables over the limit are those with which the transactions end.
-use Rattle.std.proofs.Common.{◌≡◌, ℕ, Ok, List, refl, sym, subst, ◌∙◌}
-use Rattle.std.specs.FinMap.{empty}
+use Rattle.std.proofs.Common.{◌≡◌, ℕ, Ok, refl, sym, subst, ◌∙◌}
 use Rattle.std.proofs.lemmas.Result.{err_from_is_err_and}
-use Rattle.pac_ops.specs.declared.batch.Batch.{Batch}
-use Rattle.pac_types.specs.Execution.{serial}
-use Rattle.pac_recover.specs.Gates.{txns_in}
 use Rattle.pac_recover.specs.Limits.{IsFirstOver}
 use Rattle.pac_main.specs.Causes.{ScriptStops}
 use Rattle.pac_main.specs.Replay.{outcome}

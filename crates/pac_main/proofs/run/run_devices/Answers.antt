@@ -1,5 +1,5 @@
 -- The command ends by the stop that is reported.
-use Rattle.std.proofs.Common.{ℕ, Err, Ok, ap, subst, ◌∙◌}
+use Rattle.std.proofs.Common.{ℕ, Err, Ok, ap, subst}
 use Rattle.pac_outside.specs.Causes.{Faulted}
 use Rattle.pac_outside.specs.Devices.{each}
 use Rattle.pac_recover.specs.Refusals.{AreRefused}

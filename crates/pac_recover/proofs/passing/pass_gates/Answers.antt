@@ -1,5 +1,5 @@
 -- Gate after gate is kept, and the batch after it passed over.
-use Rattle.std.proofs.Common.{◌∙◌, ◌≡◌, ◌≤◌, Ok, Err, Option, List, ℕ, ap, refl, sym, subst, arith}
+use Rattle.std.proofs.Common.{◌∙◌, Ok, Err, Option, List, ℕ, ap, refl, sym, subst, arith}
 use Rattle.std.proofs.lemmas.Result.{err_from_is_err_and}
 use Rattle.pac_ops.specs.declared.batch.Batch.{Batch}
 use Rattle.pac_outside.specs.Disk.{DiskHistory}

@@ -1,5 +1,5 @@
 -- What is executed of the store that was scanned is what serial execution of what is stored gives.
-use Rattle.std.proofs.Common.{◌≡◌, ◌∙◌, ◌+◌, Err, List, ℕ, Option, refl, sym, ap, drop, subst}
+use Rattle.std.proofs.Common.{◌≡◌, ◌∙◌, ◌+◌, Err, List, ℕ, Option, refl, ap, drop, subst}
 use Rattle.std.proofs.lemmas.Result.{err_from_is_err_and}
 use Rattle.pac_ops.specs.declared.transaction.Txn.{Txn}
 use Rattle.pac_outside.specs.Disk.{DiskHistory, IfKnown}

@@ -1,7 +1,5 @@
 -- Batch after batch is read and executed.
-use Rattle.std.proofs.Common.{◌∙◌, ◌≡◌, Ok, Err, Option, List, All, ap, refl, sym, subst, arith}
-use Rattle.std.specs.List.{AllByRecursion}
-use Rattle.std.proofs.lemmas.List.Elements.{recursion_from_All}
+use Rattle.std.proofs.Common.{◌∙◌, Ok, Err, Option, ap, refl, sym, subst, arith}
 use Rattle.std.proofs.lemmas.Result.{err_from_is_err_and}
 use Rattle.pac_ops.specs.declared.batch.Batch.{Batch}
 use Rattle.pac_outside.specs.Disk.{DiskHistory}

@@ -1,5 +1,5 @@
 -- From the gate of the newest slot on, the windows are what is stored.
-use Rattle.std.proofs.Common.{◌∙◌, ◌≡◌, ◌+◌, ◌++◌, ℕ, List, Option, refl, sym, subst}
+use Rattle.std.proofs.Common.{◌≡◌, ◌+◌, ◌++◌, ℕ, Option, subst}
 use Rattle.std.proofs.lemmas.Result.{err_from_is_err_and}
 use Rattle.pac_outside.specs.Disk.{DiskHistory, IfKnown}
 use Rattle.pac_types.specs.Execution.{serial}

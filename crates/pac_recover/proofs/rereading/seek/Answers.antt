@@ -1,5 +1,5 @@
 -- The reader comes to the gate of the newest slot, or that gate isn't in the log.
-use Rattle.std.proofs.Common.{◌∙◌, ◌≡◌, [], Bool, true, false, Option, sym, subst}
+use Rattle.std.proofs.Common.{◌∙◌, [], Bool, sym, subst}
 use Rattle.std.proofs.lemmas.Result.{err_from_is_err_and}
 use Rattle.pac_outside.specs.Disk.{DiskHistory, IfKnown}
 use Rattle.pac_log.specs.Reading.{StandsAfter}

@@ -1,5 +1,5 @@
 -- What was read of the log and the slots is what is scanned.
-use Rattle.std.proofs.Common.{◌≡◌, ◌∙◌, ◌≤◌, ℕ, ap, sym, refl, subst, arith}
+use Rattle.std.proofs.Common.{◌∙◌, ◌≤◌, ℕ, ap, sym, refl, arith}
 use Rattle.pac_log.specs.declared.reader.ReaderParts.{ReaderParts}
 use Rattle.pac_log.specs.Readers.{at_first}
 use Rattle.pac_check.specs.SlotStates.{newest_of, saved_txns}

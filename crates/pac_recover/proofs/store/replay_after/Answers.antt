@@ -1,8 +1,7 @@
 -- The slots are at gates of the log that was executed, or the first that isn't is reported.
-use Rattle.std.proofs.Common.{◌≡◌, ◌∙◌, [], List, Option, ap, refl, sym, subst}
+use Rattle.std.proofs.Common.{◌≡◌, ◌∙◌, [], List, Option, refl, sym, subst}
 use Rattle.std.proofs.lemmas.Result.{err_from_is_err_and}
 use Rattle.pac_outside.specs.Disk.{IfKnown}
-use Rattle.pac_log.specs.declared.position.NextGate.{NextGate}
 use Rattle.pac_log.specs.Reading.{StandsAfter}
 use Rattle.pac_check.specs.declared.info.SlotInfo.{SlotInfo}
 use Rattle.pac_check.specs.declared.info.SlotName.TheVariants.{A, B}

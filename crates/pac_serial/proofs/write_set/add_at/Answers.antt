@@ -1,8 +1,7 @@
 -- To append is to insert at the end.
-use Rattle.std.proofs.Common.{List, length, ap, sym, ◌∙◌, arith}
+use Rattle.std.proofs.Common.{ap, sym, ◌∙◌, arith}
 use Rattle.std.specs.List.{insert}
 use Rattle.std.proofs.lemmas.List.Edits.{insert_end}
-use Rattle.pac_serial.specs.WriteSets.{Change}
 use Rattle.pac_serial.proofs.write_set.add_at.Goals as goal
 
 pub returns-in_ok-push-clause-ok : goal.returns-in_ok-push-clause-ok

@@ -1,5 +1,5 @@
 -- The batches may be executed over the plan, and what that leaves is what serial execution gives.
-use Rattle.std.proofs.Common.{◌≡◌, ◌<◌, ◌+◌, ℕ, List, arith, ap, length, rules, sym, subst, ◌∙◌}
+use Rattle.std.proofs.Common.{◌<◌, ◌+◌, ℕ, List, arith, ap, length, rules, ◌∙◌}
 use Rattle.std.specs.Prelude.{sum}
 use Rattle.pac_ops.specs.Notes.{first_note}
 use Rattle.pac_ops.specs.Transactions.{replayed}

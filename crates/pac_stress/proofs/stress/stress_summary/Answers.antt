@@ -1,12 +1,11 @@
 -- The transactions are those of the test, and what they end with is in the summary.
-use Rattle.std.proofs.Common.{◌≡◌, ℕ, List, arith, ap, length, sym, subst, ◌∙◌, Result, Ok, Err}
+use Rattle.std.proofs.Common.{ℕ, List, arith, ap, length, sym, subst, ◌∙◌}
 use Rattle.std.proofs.lemmas.Result.{err_from_is_err_and}
 use Rattle.std.specs.FinMap.{empty}
 use Rattle.pac_ops.specs.declared.batch.Batch.{Batch}
 use Rattle.pac_ops.specs.declared.transaction.Txn.{Txn}
 use Rattle.pac_types.specs.Typing.{CatalogueState}
 use Rattle.pac_types.specs.Execution.{serial}
-use Rattle.pac_types.specs.OperationLimits.{HasFewOperations}
 use Rattle.pac_recover.specs.Gates.{RunOn, txns_in}
 use Rattle.pac_recover.specs.Logs.{FitBatches}
 use Rattle.pac_stress.specs.BankCatalogue.{bank_catalogue}

@@ -5,7 +5,7 @@ use Rattle.std.specs.FinMap.{is_sorted}
 use Rattle.std.proofs.lemmas.Option.{slice_get_within}
 use Rattle.pac_batch.specs.Sets.{has_numbers}
 use Rattle.pac_sets.specs.SetOrder.{set_cmp}
-use Rattle.pac_sets.specs.Sets.{IsOpenSet, Kept, Setting, with_kept_at}
+use Rattle.pac_sets.specs.Sets.{IsOpenSet, Kept, with_kept_at}
 use Rattle.pac_sets.proofs.KeptLemmas.{sorted_stays}
 use Rattle.pac_core.specs.declared.progress.Progress.{Progress}
 use Rattle.pac_core.specs.declared.stage.SetStage.{SetStage}

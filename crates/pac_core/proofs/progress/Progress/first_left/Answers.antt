@@ -1,12 +1,11 @@
 -- The first transaction that is left stands in its batch.
-use Rattle.std.proofs.Common.{◌≡◌, ℕ, ◌+◌, ◌-◌, ◌<◌, ◌≤◌, true, List, [], ◌∷◌, length, get_or, Option, Some, None, refl, sym, ap, subst, ◌∙◌, true≢false, arith}
+use Rattle.std.proofs.Common.{◌≡◌, ℕ, ◌+◌, ◌-◌, ◌<◌, ◌≤◌, true, List, [], ◌∷◌, length, get_or, Some, None, sym, ap, subst, ◌∙◌, true≢false, arith}
 use Rattle.std.specs.Prelude.{slice_get}
 use Rattle.std.proofs.lemmas.Option.{same_Some, slice_get_within}
-use Rattle.pac_batch.specs.Sets.{has_numbers, set_of}
+use Rattle.pac_batch.specs.Sets.{has_numbers}
 use Rattle.pac_sets.specs.declared.set_id.SetId.{SetId}
 use Rattle.pac_core.specs.declared.stage.SetStage.{SetStage}
 use Rattle.pac_core.specs.declared.stage.SetStage.TheVariants.{Waiting}
-use Rattle.pac_core.specs.Links.{IsRest}
 use Rattle.pac_core.proofs.OpenedSets.{batch_read, loaded_there, set_read, stage_read, txns_are}
 use Rattle.pac_core.proofs.OpeningLists.{set_range}
 use Rattle.pac_core.proofs.progress.Progress.first_left.Goals as goal

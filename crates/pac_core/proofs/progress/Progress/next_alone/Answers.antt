@@ -1,8 +1,7 @@
 -- The first set that is open is looked at: its first piece comes next, where it waits.
-use Rattle.std.proofs.Common.{Some, sym, subst}
-use Rattle.pac_commute.specs.Loads.{Job}
+use Rattle.std.proofs.Common.{sym, subst}
 use Rattle.pac_core.specs.declared.progress.Progress.{Progress}
-use Rattle.pac_core.specs.Links.{KeepsProgress, ReadyFrom}
+use Rattle.pac_core.specs.Links.{ReadyFrom}
 use Rattle.pac_core.specs.Moves.{IsNextAt}
 use Rattle.pac_core.proofs.FirstMoves.{left_next}
 use Rattle.pac_core.proofs.NextReady.{from_open, none_left, seen_keeps}

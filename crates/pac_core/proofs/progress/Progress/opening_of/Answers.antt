@@ -1,12 +1,9 @@
 -- By the values that are kept of its batch.
-use Rattle.std.proofs.Common.{◌≡◌, ℕ, ◌<◌, List, length, get_or, Some, refl, sym, ap, subst, ◌∙◌, arith}
+use Rattle.std.proofs.Common.{◌≡◌, ℕ, ◌<◌, List, length, Some, sym, ap, subst, ◌∙◌, arith}
 use Rattle.std.specs.Prelude.{slice_get}
-use Rattle.std.proofs.lemmas.Option.{same_Some, slice_get_read, slice_get_within}
+use Rattle.std.proofs.lemmas.Option.{slice_get_within}
 use Rattle.pac_batch.specs.Sets.{set_of}
 use Rattle.pac_sets.specs.declared.set_id.SetId.{SetId}
-use Rattle.pac_sets.specs.Sets.{IsOpenSet, Kept}
-use Rattle.pac_core.specs.declared.loaded.LoadedBatch.{LoadedBatch}
-use Rattle.pac_core.specs.declared.progress.Progress.{Progress}
 use Rattle.pac_core.specs.declared.stage.SetStage.{SetStage}
 use Rattle.pac_core.specs.declared.stage.SetStage.TheVariants.{Waiting}
 use Rattle.pac_core.specs.Links.{IsRest}

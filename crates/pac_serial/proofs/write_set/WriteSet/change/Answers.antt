@@ -1,5 +1,5 @@
 -- One more change, at a cell that is changed already or is not.
-use Rattle.std.proofs.Common.{◌≡◌, ◌<◌, ℕ, List, T, is_some, set, ap, sym, subst, refl, ◌∙◌}
+use Rattle.std.proofs.Common.{◌≡◌, ◌<◌, ℕ, List, T, is_some, set, ap, sym, subst, ◌∙◌}
 use Rattle.std.specs.FinMap as map
 use Rattle.std.specs.FinMap.{is_sorted}
 use Rattle.pac_value.specs.State.{Cell, cell_cmp, Tables, with_row}

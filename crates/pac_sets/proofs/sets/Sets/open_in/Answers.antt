@@ -1,7 +1,6 @@
 -- The first unfinished set of the block is open, or none is.
-use Rattle.std.proofs.Common.{◌≡◌, Option, Some, None, sym, ◌∙◌, subst}
-use Rattle.std.specs.Prelude.{position}
-use Rattle.pac_sets.specs.Sets.{Setting, AreSets, AreFronts, IsOpenSet, is_unfinished_in}
+use Rattle.std.proofs.Common.{◌≡◌, Some, None, sym, ◌∙◌, subst}
+use Rattle.pac_sets.specs.Sets.{Setting, AreSets, AreFronts, IsOpenSet}
 use Rattle.pac_sets.proofs.FrontLemmas.{front_block}
 use Rattle.pac_sets.proofs.OpenLemmas.{own, front_there, front_read}
 use Rattle.pac_sets.proofs.sets.Sets.open_in.Goals as goal
