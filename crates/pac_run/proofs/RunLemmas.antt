@@ -116,7 +116,7 @@ module _ (batch limit : ℕ) (left held : Option (List ℕ)) (l a b : Option Dis
         few = λ other. record { bytes = []; gave = sym (prepend_known-nil left); few = omega arith };
         long = λ long. absurd cc;
         cut = λ cut. refl;
-        behind = λ input far memory. omega arith;
+        no_further = λ input far memory. omega arith;
         rules = rules;
         requests = [];
         asked = inl refl;
@@ -264,7 +264,7 @@ module _ (batch limit : ℕ) (engine new : EngineParts) (left left' held held' :
     few = served.few;
     long = served.long;
     cut = served.cut;
-    behind = served.behind;
+    no_further = served.no_further;
     rules = rules;
     requests = served.requests;
     asked = served.asked;

@@ -131,7 +131,7 @@ module _ (first now : EngineParts) (left mid : Option (List ℕ)) (reader : Read
           few = λ other. few (λ is. other (ap (λ (s : RunStop). Err s) is));
           long = λ is. long (same-stop is);
           cut = λ is. none (same-fault is);
-          behind = λ input far memory. absurd (reads-stop stop why input far memory);
+          no_further = λ input far memory. absurd (reads-stop stop why input far memory);
           requests = serving.requests;
           asked = inl serving.asked;
           last = never-stops serving.requests serving.unstopped;
@@ -181,7 +181,7 @@ module _ (first now : EngineParts) (left mid : Option (List ℕ)) (reader : Read
       few = λ other. few;
       long = λ is. absurd (never-long (rules_of now.session) now.log.gate.place middle (cut_one (rules_of now.session) middle whole.rest asks).closed broke.more stop (broke.stops middle whole.rest serving.goes.closes.within) (same-too is));
       cut = λ is. absurd (never-fails (rules_of now.session) now.log.gate.place middle (cut_one (rules_of now.session) middle whole.rest asks).closed broke.more stop (broke.stops middle whole.rest serving.goes.closes.within) (same-input is));
-      behind = λ input far memory. short;
+      no_further = λ input far memory. short;
       requests = serving.requests ++ asks ∷ [];
       asked = asked;
       last = stops-last serving.requests asks serving.unstopped;
@@ -275,7 +275,7 @@ module _ (first now : EngineParts) (left mid : Option (List ℕ)) (reader : Read
         few = λ other. few;
         long = λ is. absurd (no-err is);
         cut = λ is. absurd (no-input is);
-        behind = λ input far memory. short;
+        no_further = λ input far memory. short;
         requests = requests;
         asked = asked;
         last = stops-last serving.requests request.Stop serving.unstopped;

@@ -114,7 +114,7 @@ pub record IsRun (batch limit : ℕ) (left left' held held' : Option (List ℕ))
   pub long : IsErrOf result TooLong → IsOverLong ahead left left'
   pub cut : IsErrOf result InputFault → HasNoFeed ahead  -- no whole line was taken and not handled
   -- nothing was read after the last line: what was taken and not handled is of the read that gave its end
-  pub behind : ¬ IsErrOf result InputFault → ¬ IsErrOf result TooLong → ¬ IsErrOf result NoMemory → length ahead < MAX_READ
+  pub no_further : ¬ IsErrOf result InputFault → ¬ IsErrOf result TooLong → ¬ IsErrOf result NoMemory → length ahead < MAX_READ
   pub rules : Rules
   pub requests : List Request
   pub asked : WereAsked rules.catalogue lines (prepend_known ahead left') requests

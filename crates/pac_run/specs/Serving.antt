@@ -179,7 +179,7 @@ pub record Served (first now : EngineParts) (left left' held held' : Option (Lis
   pub few : ¬ IsErrOf result TooLong → TookAtMost MAX_INPUT left left'
   pub long : IsErrOf result TooLong → IsOverLong ahead left left'
   pub cut : IsErrOf result InputFault → HasNoFeed ahead
-  pub behind : ¬ IsErrOf result InputFault → ¬ IsErrOf result TooLong → ¬ IsErrOf result NoMemory → length ahead < MAX_READ
+  pub no_further : ¬ IsErrOf result InputFault → ¬ IsErrOf result TooLong → ¬ IsErrOf result NoMemory → length ahead < MAX_READ
   pub requests : List Request
   pub asked : WereAsked first.session.catalogue lines (prepend_known ahead left') requests
   pub last : StopsLast requests
