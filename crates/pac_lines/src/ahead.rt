@@ -1,14 +1,13 @@
 // The bytes that were taken from a source and not handed out.
-ghost use Rattle.std.specs.Prelude.{◌≡◌, ◌≤◌, ◌<◌, [], length, IfOk, IfSome, IsErrOf, IsTrue, IsFalse, MatchResult, nat_eq, nat_lt, position, take};
+ghost use Rattle.std.specs.Prelude.{◌≡◌, ◌≤◌, ◌<◌, [], length, IfOk, IsErrOf, IsTrue, IsFalse, MatchResult, nat_lt, take};
 ghost use Rattle.pac_outside.specs.Causes.{Faulted};
 ghost use Rattle.pac_outside.specs.Content.{IsAtEnd};
-ghost use Rattle.pac_value.specs.Ascii.{line_feed};
 ghost use Rattle.pac_lines.specs.Lines.{HasNoFeed, IsEndedLine};
 ghost use Rattle.pac_lines.specs.Reading.{AheadState, IsReadAfter};
 
 use crate::LineError;
+use crate::feed::feed_at;
 use crate::limits::MAX_READ;
-use memchr::memchr;
 use pac_outside::Source;
 use std::alloc::Global;
 use std::marker::Model;
@@ -37,14 +36,6 @@ impl Model for Ahead {
     ghost view = { λ a. record { line = take a.len (drop a.line a.buffer.items); bytes = drop a.next a.buffer.items } };
 
     ghost invariant = { λ a. (a.line + a.len ≤ vec_len a.buffer) × (a.next + a.searched ≤ vec_len a.buffer) × HasNoFeed (take a.searched (drop a.next a.buffer.items)) };
-}
-
-// Where the first line feed stands.
-fn feed_at(bytes: &[u8]) -> Option<usize>
-    ensures offset { result ≡ position (λ b. nat_eq b line_feed) bytes.now }
-    ensures within { IfSome result (λ at. at < length bytes.now) }
-{
-    memchr(b'\n', bytes)
 }
 
 // Reads at most `most` bytes after those of the buffer.

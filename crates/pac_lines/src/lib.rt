@@ -21,6 +21,7 @@
 //! - No error loses a byte but those of a line that is longer: for a reader that leaves nothing out, the buffered bytes and
 //!   then what is left of the source are what they were ([`no_byte_is_lost`]).
 //! - [`calls_hand_out_lines`]: calls one after another return the lines of the source in order, and then its end.
+//! - [`feed_at`]: where the first line feed of bytes stands, for a reader that has all of a text.
 //!
 //! `specs/Lines.antt` says what the lines of a text are ([`each_text_has_its_lines`], [`lines_come_in_turn`]), and
 //! `specs/Calls.antt` what a call of a reader does ([`too_long_is_reported_exactly`]). That each byte is searched once is
@@ -28,11 +29,13 @@
 #![tactic(auto)]
 
 mod ahead;
+mod feed;
 mod laws;
 mod limits;
 mod line_error;
 mod reader;
 
+pub use feed::feed_at;
 pub use laws::{
     calls_hand_out_lines, each_text_has_its_lines, lines_come_in_turn, no_byte_is_lost,
     too_long_is_reported_exactly,

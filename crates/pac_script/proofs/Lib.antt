@@ -1,4 +1,5 @@
 pub mod LineDivision
+pub mod MarkSearch
 pub mod CutLemmas
 pub mod ReadingLemmas
 pub mod OneScript

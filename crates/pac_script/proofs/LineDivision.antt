@@ -29,22 +29,30 @@ lines-end (b ∷ bs) h = by (eqb b 10) (lines-end bs) h
     by true more h = absurd (omega arith)
     by false more h = ap (with_first b) (more (omega arith))
 
-abbrev no_place : Option ℕ
-no_place = None
-
 offset_is : (a b : ℕ) → ◌≡◌ {A = Option ℕ} (Some a) (Some b) → a ≡ b
 offset_is a b e = cc
 
-pub lines-none : (text : List ℕ) → None ≡ position (λ b. eqb b 10) text → lines text ≡ text ∷ []
-lines-none text e = by (ltb (end text) (length text)) refl e
+-- what a search says that finds a line feed
+pub found : (bs : List ℕ) (n : ℕ) → Some n ≡ position (λ b. eqb b 10) bs → (n ≡ end bs) × (end bs < length bs)
+found bs n e = by (ltb (end bs) (length bs)) refl e
   where
-    by : (t : Bool) → ltb (end text) (length text) ≡ t → no_place ≡ cond t (Some (end text)) None → lines text ≡ text ∷ []
+    by : (t : Bool) → ltb (end bs) (length bs) ≡ t → ◌≡◌ {A = Option ℕ} (Some n) (cond t (Some (end bs)) None) → (n ≡ end bs) × (end bs < length bs)
+    by true is e = (offset_is n (end bs) e, ltb-true _ _ is)
+    by false is e = absurd cc
+
+-- what a search says that finds none
+pub none_found : (bs : List ℕ) → None ≡ position (λ b. eqb b 10) bs → length bs ≤ end bs
+none_found bs e = by (ltb (end bs) (length bs)) refl e
+  where
+    by : (t : Bool) → ltb (end bs) (length bs) ≡ t → ◌≡◌ {A = Option ℕ} None (cond t (Some (end bs)) None) → length bs ≤ end bs
     by true is e = absurd cc
-    by false is e = lines-end text (ltb-false _ _ is)
+    by false is e = ltb-false _ _ is
+
+pub lines-none : (text : List ℕ) → None ≡ position (λ b. eqb b 10) text → lines text ≡ text ∷ []
+lines-none text e = lines-end text (none_found text e)
 
 pub lines-some : (text : List ℕ) (at : ℕ) → Some at ≡ position (λ b. eqb b 10) text → lines text ≡ take at text ∷ lines (drop (at + 1) text)
-lines-some text at e = by (ltb (end text) (length text)) refl e
-  where
-    by : (t : Bool) → ltb (end text) (length text) ≡ t → ◌≡◌ {A = Option ℕ} (Some at) (cond t (Some (end text)) None) → lines text ≡ take at text ∷ lines (drop (at + 1) text)
-    by false is e = absurd cc
-    by true is e = let same : at ≡ end text = offset_is at (end text) e in rw same (lines-feed text (ltb-true _ _ is))
+lines-some text at e =
+    let p = found text at e in
+    let same : at ≡ end text = p.0 in
+    rw same (lines-feed text p.1)

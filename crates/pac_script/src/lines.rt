@@ -1,19 +1,8 @@
 // The lines of a text, and where the first that is `---` begins.
-ghost use Rattle.std.specs.Prelude.{◌≡◌, ◌+◌, ◌<◌, ◌≤◌, ◌∷◌, [], length, drop, take, IfSome, MatchOption, nat_eq, position};
-ghost use Rattle.pac_value.specs.Ascii.{line_feed};
-ghost use Rattle.pac_script.specs.Lines.{lines, begins_line, begins_with_mark, is_mark_at, IsMark, HasNoMark};
+ghost use Rattle.std.specs.Prelude.{◌≡◌, ◌+◌, ◌<◌, ◌≤◌, ◌∷◌, [], length, IfSome, MatchOption};
+ghost use Rattle.pac_script.specs.Lines.{lines, begins_with_mark, IsMark, HasNoMark};
 
-fn begins_line(text: &[u8], at: usize) -> bool
-    ensures { result ≡ begins_line text.now at }
-{
-    if at == 0 {
-        return true;
-    }
-    match text.get(at - 1) {
-        None => false,
-        Some(byte) => *byte == b'\n',
-    }
-}
+use pac_lines::feed_at;
 
 fn begins_with_mark(text: &[u8]) -> bool
     ensures { result ≡ begins_with_mark text.now }
@@ -30,20 +19,17 @@ pub(crate) fn find_mark(text: &[u8]) -> Option<usize>
     ensures within { IfSome result (λ at. at + 3 ≤ length text.now) }
     ensures mark { MatchOption result (HasNoMark text.now) (λ at. IsMark text.now at) }
 {
-    for at in 0..text.len() {
-        if begins_line(text, at) && begins_with_mark(&text[at..]) {
+    let mut at = 0;
+    loop {
+        let rest = &text[at..];
+        if begins_with_mark(rest) {
             return Some(at);
         }
+        match feed_at(rest) {
+            None => return None,
+            Some(len) => at += len + 1,
+        }
     }
-    None
-}
-
-// Where the first line feed stands.
-fn feed_at(text: &[u8]) -> Option<usize>
-    ensures offset { result ≡ position (λ b. nat_eq b line_feed) text.now }
-    ensures within { IfSome result (λ at. at < length text.now) }
-{
-    text.iter().position(|byte| *byte == b'\n')
 }
 
 /// The first line of a text, and the text after its line feed, if it has one.

@@ -1,7 +1,14 @@
-use Rattle.std.proofs.Common.{◌≡◌, ◌<◌, ℕ, false}
-use Rattle.pac_script.specs.Lines.{is_mark_at}
+-- a line begins here, and none before it is the mark
+use Rattle.std.proofs.Common.{◌≡◌, ◌≤◌, ◌<◌, ◌-◌, ℕ, true, false, length}
+use Rattle.pac_script.specs.Lines.{begins_line, is_mark_at}
 use Rattle.pac_script.proofs.lines.find_mark.Given as goal
 
--- no line so far is the mark
-abbrev pub invariant-loop-at : goal.invariant-loop-at
-invariant-loop-at l = (j : ℕ) → j < l.at → is_mark_at l.text j ≡ false
+abbrev pub invariant-loop-rest : goal.invariant-loop-rest
+invariant-loop-rest l = record {
+  within : l.at ≤ length l.text;
+  line : begins_line l.text l.at ≡ true;
+  before : (j : ℕ) → j < l.at → is_mark_at l.text j ≡ false;
+}
+
+abbrev pub decreases-loop-rest : goal.decreases-loop-rest
+decreases-loop-rest l = length l.text - l.at
