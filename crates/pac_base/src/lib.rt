@@ -32,7 +32,7 @@ mod ruled;
 mod short_list;
 
 pub use exact::{Exact, Same};
-pub use lists::{Listed, are_same, copy_of, listed};
+pub use lists::{Listed, are_same, copy_of, listed, push};
 pub use no_memory::NoMemory;
 pub use refusal::Refusal;
 pub use ruled::{Rule, Ruled};

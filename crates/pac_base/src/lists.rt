@@ -1,5 +1,5 @@
 // Copies and comparisons of boxes and lists.
-ghost use Rattle.std.specs.Prelude.{◌≡◌, ◌↔◌, IsTrue, IfOk};
+ghost use Rattle.std.specs.Prelude.{◌≡◌, ◌↔◌, ◌∷◌, ◌++◌, ◌+◌, [], vec_len, IsTrue, IfOk, OnOk, OnErr};
 
 use crate::{Exact, NoMemory, Same};
 use sqlite_items::{Boxed, Items};
@@ -13,6 +13,25 @@ pub fn listed<T>(items: Vec<T>) -> Listed<T>
     ensures { result ≡ items.items }
 {
     Items::from_vec(items)
+}
+
+/// Adds an item after all others, as `Vec::push` does. That hands an item back which finds no room, and copies it for this: where
+/// the list has room and the item is large, this is cheaper.
+///
+/// # Errors
+///
+/// [`NoMemory`] where the list finds no more room. Then it is as it was.
+pub fn push<T: Drop>(list: &mut Vec<T>, item: T) -> Result<(), NoMemory>
+    ensures items { OnOk result (list.new.items ≡ list.old.items ++ item ∷ []) }
+    ensures len { OnOk result (vec_len list.new ≡ vec_len list.old + 1) }
+    ensures err { OnErr result (list.new.items ≡ list.old.items) }
+{
+    if list.len() < list.capacity() {
+        list.push_reserved(item);
+        return Ok(());
+    }
+    list.push(item)?;
+    Ok(())
 }
 
 impl<T: Exact> Exact for Boxed<T> {

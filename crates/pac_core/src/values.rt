@@ -14,7 +14,7 @@ pub(crate) fn find_values(env: &mut Env, vars: &[u16], kept: &KeptValues) -> Res
     env.clear();
     for var in vars {
         if let Some(value) = kept.get(*var) {
-            env.set(*var, value)?;
+            env.set(*var, &value)?;
         }
     }
     Ok(())

@@ -34,7 +34,7 @@ fn numbered(alloc: Global, values: &[Value]) -> Result<Env, NoMemory>
 {
     let mut env = Env::new(alloc);
     for i in 0..values.len() {
-        env.set(i as u16, values[i])?;
+        env.set(i as u16, &values[i])?;
     }
     Ok(env)
 }

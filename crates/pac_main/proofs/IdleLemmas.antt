@@ -10,7 +10,6 @@ use Rattle.pac_outside.specs.Disk.{DiskHistory}
 use Rattle.pac_outside.specs.declared.devices.Devices.{Devices}
 use Rattle.pac_outside.proofs.Runs.{three}
 use Rattle.pac_types.specs.Typing.{CatalogueState}
-use Rattle.pac_request.specs.declared.request.Request.{Request}
 use Rattle.pac_session.specs.Session.{Rules, SessionState}
 use Rattle.pac_recover.specs.declared.errors.LoadError.TheVariants as load
 use Rattle.pac_recover.specs.declared.errors.RecoverError.TheVariants as recover
@@ -91,7 +90,7 @@ idle-run group_size limit left held log a b faulted = record {
   few = λ other. record { bytes = []; gave = prepend_none left; few = omega arith };
   long = λ e. absurd cc;
   cut = λ e. refl;
-  behind = λ input long memory. omega arith;
+  no_further = λ input long memory. omega arith;
   rules = idle_rules group_size limit;
   requests = [];
   asked = inl refl;

@@ -24,7 +24,7 @@ impl Outs for Env {
     ghost Adds = { HasOneMore };
 
     fn add(&mut self, var: u16, value: &Value) -> Result<(), NoMemory> {
-        self.set(var, *value)
+        self.set(var, value)
     }
 }
 
@@ -54,7 +54,7 @@ pub(crate) struct Frame<K> {
 pub(crate) fn give<K: Outs>(frame: &mut Frame<K>, var: u16, value: &Value) -> Result<(), NoMemory>
     ensures { OnOk result (Given K.Adds var value.now frame.old frame.new) }
 {
-    frame.env.set(var, *value)?;
+    frame.env.set(var, value)?;
     frame.outs.add(var, value)
 }
 

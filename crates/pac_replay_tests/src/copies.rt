@@ -93,7 +93,7 @@ fn list_copies(alloc: Global) -> Result<bool, NoMemory> {
 
 fn env_copies(alloc: Global) -> Result<bool, NoMemory> {
     let mut env = Env::new(alloc);
-    env.set(3, Value::Int(5))?;
+    env.set(3, &Value::Int(5))?;
     Ok(copies_same(alloc, &env) && env.get(3) == Some(Value::Int(5)) && env.get(4).is_none())
 }
 

@@ -13,9 +13,9 @@ ghost use Rattle.pac_request.specs.PlainCalls.{IsCalled, HasArguments, AsksPlain
 
 use crate::meaning::proc_named;
 use crate::node::Verb;
-use pac_base::NoMemory;
+use pac_base::{NoMemory, push};
 use pac_ops::{Args, Call};
-use pac_tokens::{gap_len, leading_literal, leading_name};
+use pac_tokens::{gap_len, leading_int, leading_name, leading_text};
 use pac_types::{Catalogue, Column, Proc};
 use pac_value::{Ty, Value};
 
@@ -93,19 +93,16 @@ fn argument(wanted: Ty, bytes: &[u8]) -> Option<(Value, &[u8])>
     ensures value { IfSome result (λ p. value_of wanted p.0 ≡ Some p.0) }
 {
     let literal = after_gap(bytes);
-    let (value, len) = leading_literal(literal)?;
-    if !is_of(wanted, &value) {
-        return None;
-    }
-    Some((value, &literal[len..]))
-}
-
-fn is_of(wanted: Ty, value: &Value) -> bool
-    ensures { IsTrue result → value_of wanted value.now ≡ Some value.now }
-{
-    match (wanted, value) {
-        (Ty::Int, Value::Int(_)) | (Ty::Text, Value::Text(_)) => true,
-        _ => false,
+    match wanted {
+        Ty::Int => {
+            let (number, len) = leading_int(literal)?;
+            Some((Value::Int(number), &literal[len..]))
+        }
+        Ty::Text => {
+            let (text, len) = leading_text(literal)?;
+            Some((Value::Text(text), &literal[len..]))
+        }
+        Ty::Bool => None,
     }
 }
 
@@ -141,7 +138,7 @@ fn arguments(
 {
     let mut values = room;
     values.clear();
-    values.reserve(params.len())?;
+    values.reserve_exact(params.len())?;
     let mut params = params;
     let mut rest = bytes;
     let mut is_first = true;
@@ -152,7 +149,7 @@ fn arguments(
         let Some((value, after)) = argument(wanted, here) else {
             return Ok(None);
         };
-        values.push(value)?;
+        push(&mut values, value)?;
         params = more;
         rest = after;
         is_first = false;

@@ -16,7 +16,7 @@ ghost use Rattle.pac_serial.specs.Transactions.{state_of, RunsOver};
 
 use crate::spare::{row_room, values_copy};
 use crate::transaction::{RunningTxn, Target};
-use pac_base::{Listed, NoMemory};
+use pac_base::{Listed, NoMemory, push};
 use pac_ops::Reason;
 use pac_tables::Rows;
 use pac_types::Table;
@@ -89,9 +89,9 @@ impl From<Trap> for Halt {
 }
 
 /// Gives a variable a value.
-pub(crate) fn define(env: &mut Env, var: u16, value: Value) -> Result<(), NoMemory>
-    ensures ok { OnOk result (env.new ≡ fin.insert env.old var value) }
-    ensures types { OnOk result (types_of env.new ≡ with_var (types_of env.old) var (type_of value)) }
+pub(crate) fn define(env: &mut Env, var: u16, value: &Value) -> Result<(), NoMemory>
+    ensures ok { OnOk result (env.new ≡ fin.insert env.old var value.now) }
+    ensures types { OnOk result (types_of env.new ≡ with_var (types_of env.old) var (type_of value.now)) }
 {
     env.set(var, value)?;
     Ok(())
@@ -109,12 +109,12 @@ fn key_of(tables: &[Table], target: &Target<'_>, env: &Env) -> Result<Key, Trap>
 }
 
 // The column of a row, or the default where there is no row.
-fn column_or(row: Option<&Row>, column: u16, default: &Value) -> Value
-    ensures { result ≡ column_or (option_map (λ r. r.now) row.entry) column default.now }
+fn column_or<'a>(row: Option<&'a Row>, column: u16, default: &'a Value) -> &'a Value
+    ensures { result.now ≡ column_or (option_map (λ r. r.now) row.entry) column default.now }
 {
     match row {
-        Some(row) => *row.items().get(usize::from(column)).unwrap_or(default),
-        None => *default,
+        Some(row) => row.items().get(usize::from(column)).unwrap_or(default),
+        None => default,
     }
 }
 
@@ -156,7 +156,7 @@ pub(crate) fn has<R: Rows>(
 {
     let key = key_of(tables, target, &txn.env)?;
     let found = txn.write_set.get(rows, target.table, &key).is_some();
-    Ok(define(&mut txn.env, var, Value::Bool(found))?)
+    Ok(define(&mut txn.env, var, &Value::Bool(found))?)
 }
 
 /// `delete`.
@@ -193,7 +193,7 @@ fn row_of(
 {
     let mut row = row_room(alloc, spare, exprs.len())?;
     for expr in exprs {
-        row.push(eval(expr, env)?)?;
+        push(&mut row, eval(expr, env)?)?;
     }
     Ok(Row::of(row))
 }
@@ -278,7 +278,7 @@ pub(crate) fn assign(var: u16, value: &Expr, txn: &mut RunningTxn) -> Result<(),
     ensures write_set { txn.new.write_set ≡ txn.old.write_set }
 {
     let value = eval(value, &txn.env)?;
-    define(&mut txn.env, var, value)?;
+    define(&mut txn.env, var, &value)?;
     Ok(())
 }
 

@@ -120,7 +120,7 @@ fn exec_stmt<R: Rows>(
             second,
         } => {
             let truth = test_of(test, &txn.env)?;
-            define(&mut txn.env, *var, Value::Bool(truth))?;
+            define(&mut txn.env, *var, &Value::Bool(truth))?;
             if truth {
                 match exec_block(tables, rows, first.as_slice(), txn) {
                     Ok(()) => Ok(()),
@@ -163,7 +163,7 @@ fn exec_turns<R: Rows>(
     ensures over { OnOk result (RunsOver tables.now (R.tables rows.now) (R.held rows.now) txn.new.write_set) }
 {
     for number in from..to {
-        define(&mut txn.env, var, Value::Int(number))?;
+        define(&mut txn.env, var, &Value::Int(number))?;
         match exec_block(tables, rows, body, txn) {
             Ok(()) => {}
             Err(halt) => return Err(after(count_before(from, number, body), halt)),

@@ -39,6 +39,7 @@ impl RunningTxn {
     }
 
     /// Begins anew: the parameters have the values of the arguments, and nothing is changed.
+    #[inline(always)]
     pub(crate) fn begin(&mut self, args: &[Value]) -> Result<(), NoMemory>
         requires { length args.now ≤ 65536 }
         ensures env { OnOk result (self.new.env ≡ with_values 0 args.now self.old.env) }
@@ -46,7 +47,7 @@ impl RunningTxn {
     {
         self.write_set.clear(&mut self.spare);
         for (i, value) in args.iter().enumerate() {
-            self.env.set(i as u16, *value)?;
+            self.env.set(i as u16, value)?;
         }
         Ok(())
     }

@@ -10,7 +10,7 @@ ghost use Rattle.pac_serial.specs.WriteSets.{as_changed, AreUnmade, gains, loses
 
 use crate::commit::{delete_rows, put_rows};
 use crate::pending::Pending;
-use pac_base::{Listed, NoMemory};
+use pac_base::{Listed, NoMemory, push};
 use pac_tables::Rows;
 use pac_value::{Key, Row};
 use std::alloc::Global;
@@ -82,7 +82,7 @@ fn add_at(changes: &mut Vec<CellChange>, at: usize, change: CellChange) -> Resul
     ensures err { OnErr result (changes.new.items ≡ changes.old.items) }
 {
     if at == changes.len() {
-        changes.push(change)?;
+        push(changes, change)?;
     } else {
         changes.insert(at, change)?;
     }

@@ -3,7 +3,7 @@
 //! - [`tokens`]: all tokens of a text, or its first [`Fault`], which has an offset and a kind.
 //! - [`lex`]: the tokens up to the end or to the first fault, for a reader that may report an earlier fault.
 //! - [`int_or_text`]: the int or text at the head of a list of tokens, a `-` before an int included.
-//! - [`gap_len`], [`leading_name`], [`leading_literal`]: what a text begins with, for a reader that makes no list of
+//! - [`gap_len`], [`leading_name`], [`leading_int`], [`leading_text`]: what a text begins with, for a reader that makes no list of
 //!   tokens.
 //! - [`Token`], [`Keyword`], [`Symbol`], [`Spanned`]: a token, its keywords and symbols, and a token with its offset.
 //!   [`KEYWORDS`] and [`SYMBOLS`] are all of them. [`SyntaxError`]: why a text isn't read.
@@ -36,6 +36,6 @@ mod token;
 pub use fault::{Fault, FaultKind, SyntaxError};
 pub use lexer::{Before, Lexed, gap_len, lex};
 pub use literal::int_or_text;
-pub use prefix::{leading_literal, leading_name};
+pub use prefix::{leading_int, leading_name, leading_text};
 pub use reading::tokens;
 pub use token::{KEYWORDS, Keyword, SYMBOLS, Spanned, Symbol, Token, Tokens};

@@ -1,10 +1,11 @@
 -- The order of keys.
-use Rattle.std.specs.Prelude.{◌≡◌, refl}
+use Rattle.std.specs.Prelude.{◌≡◌, refl, ℕ, List, [], ◌∷◌, IsTrue}
 use Rattle.std.specs.declared.cmp.Ordering.{Ordering}
 use Rattle.std.specs.declared.cmp.Ordering.TheVariants.{Less, Equal, Greater}
 use Rattle.std.specs.Ordering.{nat_cmp, int_cmp, is_eq, ordering_reverse}
-use Rattle.std.specs.Cmp.{IsTotalOrder, int_cmp_total}
-use Rattle.std.specs.Cmp.Lexicographic.{slice_cmp, nat_list_cmp_total, texts_ties}
+use Rattle.std.specs.Cmp.{IsTotalOrder, int_cmp_total, signed_Decides}
+use Rattle.std.specs.Cmp.Lexicographic.{slice_cmp, nat_list_cmp_total, texts_ties, bytes_decides}
+use Rattle.std.specs.Hash as fed
 use Rattle.std.specs.FinMap.{IsAntisymmetric, int_cmp-IsAntisymmetric, nat_cmp-IsAntisymmetric, slice_cmp-IsAntisymmetric}
 use Rattle.std.proofs.Common.{ap}
 use Rattle.pac_value.specs.declared.values.Key.{Key}
@@ -59,3 +60,15 @@ key_ties (Int a) (Int b) = refl
 key_ties (Int a) (Text b) = refl
 key_ties (Text a) (Int b) = refl
 key_ties (Text a) (Text b) = texts_ties a b
+
+-- what a key is hashed by: its value alone, since the keys of a table have one type
+abbrev pub key_fed : Key → List (List ℕ)
+key_fed (Int number) = fed.i64 number
+key_fed (Text bytes) = bytes ∷ []
+
+-- keys that are `==` are hashed by the same
+pub key_feeds : (a b : Key) → IsTrue ((ghosts).eq a b) → key_fed a ≡ key_fed b
+key_feeds (Int a) (Int b) same = ap fed.i64 ((signed_Decides a b).0 same)
+key_feeds (Int a) (Text b) same = cc
+key_feeds (Text a) (Int b) same = cc
+key_feeds (Text a) (Text b) same = ap (λ bytes. bytes ∷ []) ((bytes_decides a b).0 same)

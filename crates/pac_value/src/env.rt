@@ -9,7 +9,7 @@ ghost use Rattle.pac_value.specs.Restricted.{HasOnly};
 ghost use Rattle.pac_value.specs.Sorted.{IsOffsetOf, IsGapFor};
 
 use crate::Value;
-use pac_base::{Exact, NoMemory, Same};
+use pac_base::{Exact, NoMemory, Same, push};
 use std::alloc::Global;
 use std::marker::Model;
 
@@ -76,10 +76,8 @@ fn add(values: &mut Vec<(u16, Value)>, at: usize, entry: (u16, Value)) -> Result
 {
     if at < values.len() {
         values.insert(at, entry)?;
-    } else if values.len() < values.capacity() {
-        values.push_reserved(entry);
     } else {
-        values.push(entry)?;
+        push(values, entry)?;
     }
     Ok(())
 }
@@ -152,16 +150,16 @@ impl Env {
     /// # Errors
     ///
     /// `NoMemory` alone. Then nothing is changed.
-    pub fn set(&mut self, var: u16, value: Value) -> Result<(), NoMemory>
-        ensures ok { OnOk result (self.new ≡ map.insert self.old var value) }
+    pub fn set(&mut self, var: u16, value: &Value) -> Result<(), NoMemory>
+        ensures ok { OnOk result (self.new ≡ map.insert self.old var value.now) }
         ensures err { OnErr result (self.new ≡ self.old) }
     {
         match search(&self.values, var) {
             Ok(at) => {
-                self.values[at].1 = value;
+                self.values[at].1 = *value;
                 Ok(())
             }
-            Err(at) => add(&mut self.values, at, (var, value)),
+            Err(at) => add(&mut self.values, at, (var, *value)),
         }
     }
 }

@@ -15,7 +15,7 @@
 //! use pac_value::{BinOp, Env, Expr, Value, eval};
 //!
 //! let mut env = Env::new(alloc);
-//! env.set(0, Value::Int(40))?;
+//! env.set(0, &Value::Int(40))?;
 //! let sum = Expr::Bin {
 //!     op: BinOp::Add,
 //!     left: Boxed::new(alloc, Expr::Var(0))?,

@@ -7,6 +7,7 @@ use crate::Text;
 use pac_base::{Exact, NoMemory, Same};
 use std::alloc::Global;
 use std::cmp::Ordering;
+use std::hash::{Hash, Hasher};
 
 /// The type of a value.
 #[derive(Clone, Copy, Debug, PartialEq, Eq)]
@@ -39,7 +40,7 @@ impl Value {
 
 /// The key of a row. Ints are ordered by value and come before texts, texts are ordered by their bytes, a proper
 /// prefix first.
-#[derive(Clone, Copy, Debug, PartialEq, Eq, Hash)]
+#[derive(Clone, Copy, Debug, PartialEq, Eq)]
 pub enum Key {
     Int(i64),
     Text(Text),
@@ -77,6 +78,22 @@ impl Ord for Key {
             (Key::Int(_), Key::Text(_)) => Ordering::Less,
             (Key::Text(_), Key::Int(_)) => Ordering::Greater,
             (Key::Text(a), Key::Text(b)) => a.cmp(b),
+        }
+    }
+}
+
+// The value alone, in one write: the keys of a table have one type.
+impl Hash for Key {
+    ghost use Rattle.pac_value.specs.Keys.{key_fed, key_feeds};
+
+    ghost hash_input = { key_fed };
+
+    ghost respects_eq = { key_feeds };
+
+    fn hash<H: Hasher>(&self, state: &mut H) {
+        match self {
+            Key::Int(number) => number.hash(state),
+            Key::Text(text) => text.hash(state),
         }
     }
 }

@@ -32,7 +32,7 @@ loop-expr-preserved c =
     let wanted : is_wanted (Some (type_of v)) (slice_get tys i) ≡ true =
     subst (λ (o : Option Ty). is_wanted o (slice_get tys i) ≡ true) c.in_ok-eval.ensures.typed
     (wanted_item (types_of c.args.env.now) es tys i c.expr-item.result c.requires.typed c.loop-expr-test.true c.expr-item.is) in
-    let items : c.push.new.self.items ≡ row ++ v ∷ [] = c.in_ok-push.ensures.items in
+    let items : c.push.new.list.items ≡ row ++ v ∷ [] = c.in_ok-push.ensures.items in
     record {
       count = omega (arith, c.loop-expr.invariant.count, c.in_ok-push.ensures.len);
       types = ap (map type_of) items ∙ types-go row tys i v c.loop-expr.invariant.types wanted;
