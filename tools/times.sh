@@ -1,12 +1,12 @@
 #!/bin/bash
 # Times the program and parts of it, for docs/COSTS.md.
 #
-#     tools/times.sh replay|input|parts|log|slots|runs|committed|rows|pieces|shares|workers|restarts|stream
+#     tools/times.sh replay|input|parts|log|slots|runs|committed|rows|pieces|shares|serial|workers|restarts|stream
 #
 # `replay`, `input`, `runs`, `workers` and `stream` time the program, which is $PACMAN or crates/pacman/out/pacman, and `committed`, `shares`
-# and `restarts` count its instructions. The others time pac_bench, and `pieces` counts its instructions; it is $PAC_BENCH or crates/pac_bench/out/pac_bench, as
-# `(cd crates/pac_bench && rt run -- copy 1)` makes it. All files are made in a new folder of the current directory, which
-# is removed: its disk is what `log`, `slots` and `runs` time.
+# and `restarts` count its instructions. The others time pac_bench, and `pieces` and `serial` count its instructions; it is $PAC_BENCH or
+# crates/pac_bench/out/pac_bench, as `(cd crates/pac_bench && rt run -- copy 1)` makes it. All files are made in a new folder of the
+# current directory, which is removed: its disk is what `log`, `slots` and `runs` time.
 set -eu -o pipefail
 top=$(cd "$(dirname "$0")/.." && pwd)
 pacman=$(realpath "${PACMAN:-$top/crates/pacman/out/pacman}")
@@ -216,6 +216,17 @@ committed)
         mv count "count.$count"
     done
     echo "a committed call in groups of 64: $((($(cat count.6464) - $(cat count.64)) / 6400)) instructions"
+    ;;
+serial)
+    # A call that is read from a script and executed serially, with its part of the dump.
+    script 0 1 > none
+    instructions "$bench" replay 1 < none
+    mv count start
+    for keys in 1 3000; do
+        script 3000 "$keys" > some
+        instructions "$bench" replay 1 < some
+        echo "a call, over $keys keys: $((($(cat count) - $(cat start)) / 3000)) instructions"
+    done
     ;;
 workers)
     # How long workers take over logs, as scripts and as stores, and what a restart by serial execution takes.

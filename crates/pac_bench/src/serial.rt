@@ -13,6 +13,7 @@ use pac_tables::HashedRows;
 use pac_types::Catalogue;
 use std::alloc::Global;
 
+// The longest script that is read, 64 MiB: that of the command `replay`.
 const MAX_INPUT: usize = 67_108_864;
 
 // The tables that the transactions of these batches leave, from no rows on.
