@@ -60,3 +60,6 @@ pub mod LeftPieces
 pub mod BatchLoads
 pub mod SameLists
 pub mod JobFacts
+mod Executions
+mod NextRun
+pub mod Sent

@@ -8,3 +8,4 @@ pub mod Places
 pub mod Moves
 pub mod Calls
 pub mod Results
+pub mod FedExecution

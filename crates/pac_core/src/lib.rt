@@ -15,6 +15,8 @@
 //!   [`weight_of`] of what a piece costs.
 //! - [`Core::next_txn`], [`Core::is_closed`], [`Core::is_finished`], [`Core::unfinished`] and [`Core::pairs`] say how far it
 //!   is. [`Core::job`] copies what tells its job, and [`Core::from_job`] begins that anew.
+//! - [`execute`] executes batches of transactions over tables by a number of workers: a core is a machine of `pac_workers`.
+//!   [`execute_feed`] does so with what a feed gives.
 //!
 //! ```
 //! let mut core = Core::new(alloc, plan, 1, rows)?;
@@ -37,11 +39,13 @@ mod alone;
 mod answers;
 mod cells;
 mod events;
+mod execution;
 mod fitting;
 mod job;
 mod kept_values;
 mod loaded;
 mod loading;
+mod machine;
 mod moves;
 mod opening;
 mod place;
@@ -55,6 +59,7 @@ mod weighing;
 mod work;
 
 pub use answers::{Finish, Outcome, ReadyPieces, Take};
+pub use execution::{Executed, execute, execute_feed};
 pub use job::Job;
 pub use replay::Core;
 pub use weighing::weight_of;

@@ -20,7 +20,7 @@ use pac_outside::{Disk, Gate};
 use pac_plan::Plan;
 use pac_tables::{JoinedRows, TableRows};
 use pac_types::Catalogue;
-use pac_workers::execute_feed;
+use pac_core::execute_feed;
 use std::alloc::Global;
 use std::sync::Wait;
 use std::thread::Threads;

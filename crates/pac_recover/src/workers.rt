@@ -17,7 +17,7 @@ use pac_outside::Gate;
 use pac_plan::Plan;
 use pac_tables::{JoinedRows, TableRows};
 use pac_types::Catalogue;
-use pac_workers::{Executed, execute};
+use pac_core::{Executed, execute};
 use std::alloc::Global;
 use std::sync::Wait;
 use std::thread::Threads;

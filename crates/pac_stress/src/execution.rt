@@ -13,7 +13,7 @@ use pac_outside::Gate;
 use pac_serial::{AllError, no_rows};
 use pac_tables::HashedRows;
 use pac_types::Catalogue;
-use pac_workers::{Executed, execute};
+use pac_core::{Executed, execute};
 use std::alloc::Global;
 use std::sync::Wait;
 use std::thread::Threads;

@@ -7,7 +7,7 @@ use pac_outside::OpenGate;
 use pac_plan::{Plan, PlanParts};
 use pac_tables::{OrderedRows, Rows};
 use pac_value::{Key, Row, Ty, Value};
-use pac_workers::execute;
+use pac_core::execute;
 use std::alloc::Global;
 use std::sync::Wait;
 use std::thread::Threads;

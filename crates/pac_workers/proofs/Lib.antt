@@ -1,6 +1,4 @@
-mod Executions
 mod Feeds
 mod LoadedOne
-mod NextRun
-pub mod Sent
 mod Showing
+mod TwinKeeps

@@ -6,7 +6,7 @@ use Rattle.pac_ops.specs.declared.batch.Batch.{Batch}
 use Rattle.pac_ops.specs.declared.shapes.TableTypes.{TableTypes}
 use Rattle.atomic_table.specs.Seated.{TableId}
 use Rattle.atomic_table.specs.declared.shared.Seat.{Seat}
-use Rattle.pac_twins.specs.Twins.{IsShown}
+use Rattle.pac_workers.specs.Twins.{IsShown}
 use Rattle.pac_workers.specs.Shown.{Tells, TellsMore}
 use Rattle.pac_workers.proofs.Showing.{tells_shown}
 

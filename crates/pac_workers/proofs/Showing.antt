@@ -3,7 +3,7 @@ use Rattle.std.proofs.Common.{◌≡◌, ℕ, Bool, List, [], ◌∷◌, length,
 use Rattle.std.specs.Coded.{Coded}
 use Rattle.atomic_table.specs.Seated.{TableId}
 use Rattle.atomic_table.specs.declared.shared.Seat.{Seat}
-use Rattle.pac_twins.specs.Twins.{IsShown}
+use Rattle.pac_workers.specs.Twins.{IsShown}
 use Rattle.pac_workers.specs.Shown.{Tells, TellsJob, shown_closed, shown_job}
 
 module _ {M : Type 0} (job : M → M) (is_closed : M → Bool) where

@@ -1,4 +1,4 @@
 pub mod Fed
-pub mod FedExecution
 pub mod Shown
 pub mod Takes
+pub mod Twins

@@ -9,10 +9,10 @@ use crate::feed::Feed;
 use crate::guarded::Guarded;
 use crate::machine::Loads;
 use crate::tally::Lent;
+use crate::twins::{Pair, Twin};
 use crate::worker::Monitor;
 use pac_base::NoMemory;
 use pac_ops::Batch;
-use pac_twins::{Pair, Twin};
 use std::sync::Wait;
 
 impl<M: Loads, L: Lent> Guarded<M, L> {

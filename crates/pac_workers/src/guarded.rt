@@ -1,17 +1,17 @@
 // What lies under the lock.
 ghost use base.Stored.{Gv-set};
 ghost use Rattle.std.specs.Prelude.{◌≡◌, ◌+◌, ◌^◌, ◌<◌, [], length, All, IfOk, OnOk, OnErr};
-ghost use Rattle.pac_twins.specs.Twins.{IsShown};
+ghost use Rattle.pac_workers.specs.Twins.{IsShown};
 ghost use Rattle.pac_workers.specs.Shown.{Tells, shown_closed, shown_job};
 ghost use Rattle.pac_workers.specs.Takes.{ForWork, ran_by, run_now};
 
 use crate::hand::Hand;
 use crate::machine::{Machine, Taken};
 use crate::tally::{Lent, Tally};
+use crate::twins::Twin;
 use pac_base::NoMemory;
 use pac_ops::PieceId;
 use pac_outside::Gate;
-use pac_twins::Twin;
 use std::sync::ledger::Book;
 
 /// The most pieces that are taken in one hold of the lock.

@@ -6,9 +6,6 @@
 //!   worker finished and the number of those that were left by all.
 //! - [`replay_feed`]: the same while the caller's thread loads into it what a [`Feed`] gives. A machine that can be loaded is one
 //!   that [`Loads`].
-//! - [`execute`]: executes batches of transactions over tables by a number of workers. It loads them into a `Core` of `pac_core`,
-//!   which is a machine, and leaves the tables and the first note, as if each transaction had been executed after the other.
-//!   [`execute_feed`] does so with what a feed gives, and [`execute_here`] without any thread.
 //!
 //! ```
 //! use pac_outside::OpenGate;
@@ -43,18 +40,16 @@
 //!   back what it has, and counts nothing for it. What all workers leave is drained by the caller's thread.
 #![tactic(auto)]
 
-mod execution;
 mod feed;
 mod feeding;
 mod guarded;
 mod hand;
 mod machine;
-mod replaying;
 mod tally;
 mod threads;
+mod twins;
 mod worker;
 
-pub use execution::{Executed, execute, execute_feed, execute_here};
 pub use feed::Feed;
 pub use machine::{Loads, Machine, Ready, Taken};
 pub use threads::{Replayed, replay, replay_feed};

@@ -1,5 +1,5 @@
 // How many pieces each worker finished.
-ghost use Rattle.std.specs.Prelude.{◌≡◌, ◌+◌, ◌^◌, ◌<◌, ◌↔◌, ℕ, [], IfOk, IsTrue, length, sum, vec_capacity, vec_len};
+ghost use Rattle.std.specs.Prelude.{◌≡◌, ◌+◌, ◌^◌, ◌<◌, ◌↔◌, ℕ, [], IfOk, IsTrue, map, sum, vec_capacity, vec_len};
 ghost use Rattle.atomic_table.specs.Seated.{TableId};
 
 use pac_base::{Listed, NoMemory, listed};
@@ -90,7 +90,7 @@ pub(crate) fn tallies_of<L: Ledger>(
     Ok(tallies)
 }
 
-/// The numbers of tallies. Their parts of the ledger are put to the rest.
+/// What each tally counts, in their order. Their parts of the ledger are put to the rest.
 pub(crate) fn counts_of<L: Ledger>(
     room: Vec<u64>,
     tallies: Vec<Tally<L>>,
@@ -98,7 +98,7 @@ pub(crate) fn counts_of<L: Ledger>(
 ) -> Listed<u64>
     requires room { (vec_len room ≡ 0) × (vec_capacity room ≡ vec_len tallies) }
     requires rest { (rest.old.parts ≡ 1) × (rest.old.amount ≡ 0) }
-    ensures len { length result ≡ vec_len tallies }
+    ensures counts { result ≡ map (λ tally. tally.count) tallies.items }
     ensures parts { rest.new.parts ≡ vec_len tallies + 1 }
     ensures amount { rest.new.amount ≡ sum result }
 {

@@ -1,7 +1,7 @@
 // Replaying by workers.
-ghost use Rattle.std.specs.Prelude.{◌≡◌, ◌+◌, ◌<◌, ◌≤◌, List, false, true, IfOk, OnOk, length, sum, vec_capacity, vec_len};
+ghost use Rattle.std.specs.Prelude.{◌≡◌, ◌+◌, ◌<◌, ◌≤◌, List, false, true, IfOk, OnOk, length, map, sum, vec_capacity, vec_len};
 ghost use Rattle.pac_ops.specs.declared.batch.Batch.{Batch as ABatch};
-ghost use Rattle.pac_twins.specs.Twins.{IsShown};
+ghost use Rattle.pac_workers.specs.Twins.{IsShown};
 ghost use Rattle.pac_workers.specs.Shown.{IsFed, IsJobFed, Tells, TellsJob};
 
 use crate::feed::Feed;
@@ -9,10 +9,10 @@ use crate::feeding::feed_all;
 use crate::guarded::Guarded;
 use crate::machine::{Loads, Machine};
 use crate::tally::{Lent, Tally, counts_of, tallies_of};
+use crate::twins::{Pair, Twin};
 use crate::worker::{Monitor, run_worker};
 use pac_base::{Listed, NoMemory};
 use pac_outside::Gate;
-use pac_twins::{Pair, Twin};
 use std::alloc::Global;
 use std::marker::Brand;
 use std::sync::ledger::{Blank, Share};
@@ -267,7 +267,7 @@ fn settle<M: Machine, L: Lent>(
     ensures closed { IfOk result (λ r. M.is_closed r.0.machine ≡ true) }
     ensures finished { IfOk result (λ r. M.left r.0.machine ≡ 0) }
     ensures told { IfOk result (λ r. TellsJob M.job L.pair (M.job r.0.machine) r.1) }
-    ensures tallies { IfOk result (λ r. length r.0.tallies ≡ vec_len tallies) }
+    ensures tallies { IfOk result (λ r. r.0.tallies ≡ map (λ tally. tally.count) tallies.items) }
     ensures counted { IfOk result (λ r. sum r.0.tallies + r.0.drained + L.size ≡ M.size (M.job r.0.machine) + L.left) }
 {
     let Monitor {

@@ -1,6 +1,6 @@
 -- A core, its work and its results can be sent.
 use denote.Param.Send.{sendable}
-use Rattle.pac_workers.proofs.Sent.{core_send, done_send, work_send}
+use Rattle.pac_core.proofs.Sent.{core_send, done_send, work_send}
 use Rattle.pac_worker_tests.proofs.feeds.left_by.Goals as goal
 
 pub replay_feed-requires-send-M : goal.replay_feed-requires-send-M

@@ -1,6 +1,6 @@
 -- The twin beside the machine shows one.
 use Rattle.std.proofs.Common.{sym, subst}
-use Rattle.pac_twins.specs.Twins.{IsShown}
+use Rattle.pac_workers.specs.Twins.{IsShown}
 use Rattle.pac_workers.proofs.Showing.{shown_of, tells_of}
 use Rattle.pac_workers.proofs.guarded.Guarded.end.Goals as goal
 

@@ -2,7 +2,7 @@
 use Rattle.std.proofs.Common.{◌≡◌, ◌∙◌, false, sym, subst, true≢false}
 use Rattle.std.specs.List.{AllByRecursion}
 use Rattle.pac_ops.specs.Shapes.{TxnFitsTypes}
-use Rattle.pac_twins.specs.Twins.{IsShown}
+use Rattle.pac_workers.specs.Twins.{IsShown}
 use Rattle.pac_workers.proofs.LoadedOne.{from_ok, on_ok, one_more}
 use Rattle.pac_workers.proofs.Showing.{same_told, shown_of, tells_of}
 use Rattle.pac_workers.proofs.guarded.Guarded.load.Goals.{then-is_err, else-is_err}

@@ -1,16 +1,18 @@
-// The replay of a plan's pieces is a machine.
+// A core is a machine that workers may share.
 ghost use Rattle.std.specs.Prelude.{◌≡◌, [], length, map};
 ghost use Rattle.pac_piece.specs.Runnable.{IsRunnable};
 ghost use Rattle.pac_commute.specs.Loads.{next_in_job};
 ghost use Rattle.pac_core.specs.Replay.{left, loaded_pieces, replay_code, with_batch_loaded, with_none_taken};
 ghost use Rattle.pac_core.specs.Takes.{IsNextPiece};
 
-use crate::machine::{Loads, Machine, Ready, Taken};
+use crate::answers::{Finish, ReadyPieces, Take};
+use crate::replay::Core;
+use crate::weighing::weight_of;
 use pac_base::NoMemory;
-use pac_core::{Core, Finish, ReadyPieces, Take, weight_of};
 use pac_ops::{Batch, PieceId};
 use pac_piece::{Done, Work, run};
 use pac_tables::Rows;
+use pac_workers::{Loads, Machine, Ready, Taken};
 use std::alloc::Global;
 
 impl<R: Rows> Machine for Core<R> {

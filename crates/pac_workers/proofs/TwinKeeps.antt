@@ -4,7 +4,7 @@ use mathlib.Core.Option.{some, some-injective, some-ne-none}
 use lib.ListN.{get_elem?}
 use Rattle.atomic_table.specs.Table.{step, keeps, Allows, Joins, Splits, opening}
 use Rattle.atomic_table.proofs.Lists.{at_set, at_snoc, set_else}
-use Rattle.pac_twins.specs.Twins.{AllAre, AreAlike, AreTold, count_shown}
+use Rattle.pac_workers.specs.Twins.{AllAre, AreAlike, AreTold, count_shown}
 
 module _ {T : Type 0} where
   count_set : (l : List (List T)) (i : ℕ) (v w : List T) → get_elem? l i ≡ some v → count_shown (set l i w) + length v ≡ count_shown l + length w

@@ -3,7 +3,7 @@ use Rattle.std.proofs.Common.{sym, ap, subst, ◌∙◌}
 use Rattle.pac_core.specs.Calls.{MayLoadAll, with_batches}
 use Rattle.pac_core.specs.Replay.{Replay, closed}
 use Rattle.pac_core.proofs.BatchLoads.{may_load_first}
-use Rattle.pac_workers.proofs.execution.loaded.Goals as goal
+use Rattle.pac_core.proofs.execution.loaded.Goals as goal
 
 pub load_all-requires : goal.load_all-requires
 load_all-requires g c =

@@ -1,5 +1,5 @@
 -- The last state of a replay is that of the batches that were loaded at first.
-use Rattle.std.proofs.Common.{true, [], ◌∷◌, ◌≡◌, ℕ, ◌+◌, List, length, Option, refl, sym, ap, ◌∙◌, arith}
+use Rattle.std.proofs.Common.{[], ◌∷◌, ◌≡◌, ℕ, ◌+◌, List, length, Option, refl, sym, ap, ◌∙◌, arith}
 use Rattle.pac_value.specs.State.{Tables}
 use Rattle.pac_ops.specs.Notes.{first_note}
 use Rattle.pac_ops.specs.Transactions.{replayed}
@@ -7,7 +7,7 @@ use Rattle.pac_ops.specs.declared.batch.Batch.{Batch}
 use Rattle.pac_ops.specs.declared.note.Note.{Note}
 use Rattle.pac_commute.specs.Loads.{Job, pieces_of}
 use Rattle.pac_commute.specs.PlanLaws.{txns_of}
-use Rattle.pac_core.specs.Calls.{IsDrained, IsReplayOutcome, with_batches}
+use Rattle.pac_core.specs.Calls.{IsReplayOutcome, with_batches}
 use Rattle.pac_core.specs.Replay.{Replay, closed, left, loaded_pieces, opening_replay, with_batch_loaded, with_none_taken}
 use Rattle.pac_core.proofs.BatchLoads.{begun_is, begun_left, loaded_are}
 use Rattle.pac_workers.specs.Shown.{with_each}
@@ -29,10 +29,6 @@ module _ (job : Job) (batches : List Batch) (core : Replay) (loaded : core ≡ c
 
       pub note_is : note ≡ first_note (replayed job.parts.programs job.first (txns_of batches) job.tables).notes
       note_is = is.note_is ∙ (λ i. first_note (replayed (job_is i).parts.programs (job_is i).first (txns_of (batches_are i)) (job_is i).tables).notes)
-
--- a replay that was drained has the job and the batches that it had, of which none is taken
-pub drained_same : (core last : Replay) → IsDrained core last → with_none_taken last ≡ with_none_taken core
-drained_same core last drained = (λ i. record { job = drained.job i; batches = drained.batches i; is_closed = true; out = []; finished = [] })
 
 -- ---- what a feed gave is loaded
 

@@ -7,9 +7,9 @@ use Rattle.pac_ops.specs.Shapes.{RowsFit}
 use Rattle.pac_commute.specs.Loads.{Job, next_in_job}
 use Rattle.pac_core.specs.Calls.{with_batches}
 use Rattle.pac_core.specs.Replay.{Replay, closed, opening_replay}
-use Rattle.pac_workers.proofs.Executions.{fed_counted, fed_same, job_is, note_is, tables_are}
-use Rattle.pac_workers.proofs.Sent.{core_send, done_send, work_send}
-use Rattle.pac_workers.proofs.execution.execute_feed.Goals as goal
+use Rattle.pac_core.proofs.Executions.{fed_counted, fed_same, job_is, note_is, tables_are}
+use Rattle.pac_core.proofs.Sent.{core_send, done_send, work_send}
+use Rattle.pac_core.proofs.execution.execute_feed.Goals as goal
 
 pub replay_feed-requires-send-M : goal.replay_feed-requires-send-M
 replay_feed-requires-send-M g c κs within = let sent = c.type_bounds.send-R in search (sendable, core_send)

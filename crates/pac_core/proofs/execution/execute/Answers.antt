@@ -4,9 +4,9 @@ use Rattle.std.specs.Prelude.{sum}
 use denote.Param.Send.{sendable}
 use Rattle.pac_ops.specs.Shapes.{RowsFit}
 use Rattle.pac_commute.specs.Loads.{Job}
-use Rattle.pac_workers.proofs.Executions.{job_is, left_is, note_is, tables_are}
-use Rattle.pac_workers.proofs.Sent.{core_send, done_send, work_send}
-use Rattle.pac_workers.proofs.execution.execute.Goals as goal
+use Rattle.pac_core.proofs.Executions.{job_is, left_is, note_is, tables_are}
+use Rattle.pac_core.proofs.Sent.{core_send, done_send, work_send}
+use Rattle.pac_core.proofs.execution.execute.Goals as goal
 
 pub replay-requires-send-M : goal.replay-requires-send-M
 replay-requires-send-M g c κs within = let sent = c.type_bounds.send-R in search (sendable, core_send)

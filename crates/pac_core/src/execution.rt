@@ -9,16 +9,16 @@ ghost use Rattle.pac_commute.specs.PartialFits.{TxnsFitPlan};
 ghost use Rattle.pac_commute.specs.PlanLaws.{NumbersRunOn, txns_of};
 ghost use Rattle.pac_core.specs.Calls.{IsReplayDone, IsReplayOutcome, with_batches};
 ghost use Rattle.pac_core.specs.Replay.{closed, opening_replay};
-ghost use Rattle.pac_workers.specs.FedExecution.{IsExecutedFeed};
+ghost use Rattle.pac_core.specs.FedExecution.{IsExecutedFeed};
 
-use crate::feed::Feed;
-use crate::threads::{Replayed, replay, replay_feed};
+use crate::answers::Outcome;
+use crate::replay::Core;
 use pac_base::{Listed, NoMemory};
-use pac_core::{Core, Outcome};
 use pac_ops::{Batches, Note};
 use pac_outside::Gate;
 use pac_plan::Plan;
 use pac_tables::Rows;
+use pac_workers::{Feed, Replayed, replay, replay_feed};
 use std::alloc::Global;
 use std::sync::Wait;
 use std::thread::Threads;
@@ -36,7 +36,7 @@ pub struct Executed<R: Rows> {
 }
 
 /// Executes consecutive batches over tables, by `workers` workers. What is left is what executing their transactions one after
-/// another leaves, whichever worker runs which piece, and when. Workers pass the gate as in [`replay`](crate::replay).
+/// another leaves, whichever worker runs which piece, and when. Workers pass the gate as in [`replay`](pac_workers::replay).
 ///
 /// # Errors
 ///
@@ -70,7 +70,7 @@ pub fn execute<R: Rows + Send, G: Gate + Sync, H: Threads + Wait + Sync>(
 }
 
 /// Executes over tables what a feed gives, by `workers` workers, while the caller's thread loads it. What is left is what
-/// executing the transactions of its batches one after another leaves. Workers pass the gate as in [`replay`](crate::replay).
+/// executing the transactions of its batches one after another leaves. Workers pass the gate as in [`replay`](pac_workers::replay).
 ///
 /// # Errors
 ///
@@ -124,33 +124,6 @@ fn into_executed<R: Rows>(replayed: Replayed<Core<R>>) -> Executed<R>
         tallies,
         drained,
     }
-}
-
-/// The same on this thread, without any other: the pieces are run in the order in which they come next.
-///
-/// # Errors
-///
-/// [`NoMemory`] where an allocation is refused.
-pub fn execute_here<R: Rows>(
-    alloc: Global,
-    plan: Plan,
-    first: u64,
-    tables: R,
-    batches: Batches,
-) -> Result<Outcome<R>, NoMemory>
-    requires tables { R.tables tables ≡ length plan.tables }
-    requires fit { RowsFit plan.tables (R.held tables) }
-    requires runs { NumbersRunOn first batches }
-    requires txns { All (λ (batch : ABatch). TxnsFitPlan plan batch.txns) batches }
-    requires numbers { first + length (txns_of batches) < 2 ^ 64 }
-    ensures tables { IfOk result (λ outcome. R.tables outcome.tables ≡ length plan.tables) }
-    ensures fit { IfOk result (λ outcome. RowsFit plan.tables (R.held outcome.tables)) }
-    ensures held { IfOk result (λ outcome. R.held outcome.tables ≡ (replayed plan.programs first (txns_of batches) (R.held tables)).tables) }
-    ensures note { IfOk result (λ outcome. outcome.first_note ≡ first_note (replayed plan.programs first (txns_of batches) (R.held tables)).notes) }
-{
-    let mut core = loaded(alloc, plan, first, tables, batches)?;
-    core.drain()?;
-    Ok(core.outcome())
 }
 
 // Batches are loaded, and no more come.

@@ -1,6 +1,11 @@
-// Two tokens that show one value.
+// Twins: two tokens that show one value, in different hands.
+//
+// What is known of a value under a lock is known by its type alone. A twin that lies beside it there, while the other one is in
+// the hands of the only one who changes the value, carries what that one knows of it: the twins show the same, and only who has
+// both at hand can have them show something else. A twin has no bytes, and the value isn't kept: `Pair::show` compares and
+// exchanges a word, which stays 0.
 ghost use Rattle.std.specs.Prelude.{◌≡◌, ◌∷◌, [], IfOk};
-ghost use Rattle.pac_twins.specs.Twins.{AreAlike, IsShown, AreTold, both_shown, first_shown, rest_shown};
+ghost use Rattle.pac_workers.specs.Twins.{AreAlike, IsShown, AreTold, both_shown, first_shown, rest_shown};
 
 use atomic_table::{Join, Play, Seat, Split, Table, TableRule};
 use std::alloc::{AllocError, Global};

@@ -3,9 +3,9 @@ use Rattle.std.proofs.Common.{◌≡◌, ◌+◌, length, sym, subst}
 use Rattle.std.specs.Prelude.{OnOk}
 use Rattle.pac_commute.specs.Loads.{next_in_job}
 use Rattle.pac_core.proofs.BatchFits.{all_of_plan}
-use Rattle.pac_workers.proofs.NextRun.{next_loaded}
-use Rattle.pac_workers.proofs.replaying.CoreLoads.load.Goals.{in-Ok, in-Err}
-use Rattle.pac_workers.proofs.replaying.CoreLoads.load.Goals as goal
+use Rattle.pac_core.proofs.NextRun.{next_loaded}
+use Rattle.pac_core.proofs.machine.CoreLoads.load.Goals.{in-Ok, in-Err}
+use Rattle.pac_core.proofs.machine.CoreLoads.load.Goals as goal
 
 pub load-requires-clause-may : goal.load-requires-clause-may
 load-requires-clause-may g c = record { opening = c.requires.open; first = c.requires.first; fits = all_of_plan c.args.self.now.job.parts c.args.batch.txns c.requires.fits }
