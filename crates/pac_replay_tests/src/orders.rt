@@ -120,11 +120,18 @@ fn any_result(results: &mut Vec<Done>, random: &mut u64) -> Option<Done> {
     Some(results.remove(at))
 }
 
-fn finish_one<R: Rows>(core: &mut Core<R>, results: &mut Vec<Done>, random: &mut u64) -> Turn {
+// A result is handed in. Where only results are at hand that were taken since the last reclaim, none is foreign.
+fn finish_one<R: Rows>(
+    core: &mut Core<R>,
+    results: &mut Vec<Done>,
+    random: &mut u64,
+    are_own: bool,
+) -> Turn {
     let Some(done) = any_result(results, random) else {
         return Turn::GoesOn;
     };
     match hand_in(core, done) {
+        Handed::Foreign if are_own => Turn::Fails,
         Handed::Kept | Handed::Foreign => Turn::GoesOn,
         Handed::NoMemory => Turn::Fails,
     }
@@ -144,6 +151,7 @@ fn one_turn<R: Rows>(
     results: &mut Vec<Done>,
     random: &mut u64,
     takes: u64,
+    are_own: bool,
 ) -> Turn {
     let number = next(random) % 64;
     if number == 0 {
@@ -153,7 +161,7 @@ fn one_turn<R: Rows>(
     } else if number < takes.saturating_add(5) {
         take_one(alloc, core, results)
     } else {
-        finish_one(core, results, random)
+        finish_one(core, results, random, are_own)
     }
 }
 
@@ -164,9 +172,10 @@ fn turns<R: Rows>(
     results: &mut Vec<Done>,
     random: &mut u64,
     takes: u64,
+    are_own: bool,
 ) -> Turn {
     for _ in 0..2_000u32 {
-        let turn = one_turn(alloc, core, results, random, takes);
+        let turn = one_turn(alloc, core, results, random, takes, are_own);
         if turn != Turn::GoesOn {
             return turn;
         }
@@ -174,7 +183,8 @@ fn turns<R: Rows>(
     Turn::Fails
 }
 
-// A core after as many events as it takes to end it. Results from before a reclaim are handed in too.
+// A core after as many events as it takes to end it. Of every other seed results from before a reclaim are handed in too; of the
+// others none, and then each is kept.
 fn ended<R: Rows>(
     alloc: Global,
     mut core: Core<R>,
@@ -182,10 +192,17 @@ fn ended<R: Rows>(
     seed: u64,
 ) -> Option<Core<R>> {
     let mut random = seed.wrapping_mul(0x9E37_79B9_7F4A_7C15);
+    let are_own = seed % 2 == 0;
+    let takes = 15 + seed / 2 % 6 * 6;
     for _ in 0..100u32 {
-        match turns(alloc, &mut core, results, &mut random, 15 + seed % 6 * 6) {
+        match turns(alloc, &mut core, results, &mut random, takes, are_own) {
             Turn::IsDone => return Some(core),
-            Turn::Reclaims => core = core.reclaim(),
+            Turn::Reclaims => {
+                core = core.reclaim();
+                if are_own {
+                    results.clear();
+                }
+            }
             Turn::GoesOn | Turn::Fails => return None,
         }
     }

@@ -2,12 +2,12 @@
 ghost use Rattle.std.specs.Prelude.{◌≡◌, ◌≤◌, IfOk, length};
 
 use pac_base::{NoMemory, listed};
+use pac_core::execute;
 use pac_ops::{Batch, Change, Records, TableTypes, Txn, Txns};
 use pac_outside::OpenGate;
 use pac_plan::{Plan, PlanParts};
 use pac_tables::{OrderedRows, Rows};
 use pac_value::{Key, Row, Ty, Value};
-use pac_core::execute;
 use std::alloc::Global;
 use std::sync::Wait;
 use std::thread::Threads;

@@ -7,8 +7,9 @@ use pac_base::NoMemory;
 use pac_outside::OpenGate;
 use pac_workers::replay;
 use std::alloc::Global;
+use std::sync::atomic::Ordering;
 
-// Two workers enter the gate, where there is work for both: the first waits there for the second.
+// Two workers enter the gate, where there is work for both: the first waits there until the other enters with another piece.
 #[test]
 fn two_workers_meet(rt: HostRuntime) -> Result<(), NoMemory> {
     let alloc: Global = rt.alloc();
@@ -30,7 +31,7 @@ fn two_workers_meet(rt: HostRuntime) -> Result<(), NoMemory> {
 }
 
 // The transactions and blocks of pieces, in order.
-const IN_ORDER: &[(u64, u64)] = &[
+const IN_ORDER: &[(u64, u16)] = &[
     (0, 0),
     (0, 1),
     (0, 2),
@@ -54,8 +55,7 @@ fn one_worker_order(rt: HostRuntime) -> Result<(), NoMemory> {
     };
     let gate = Logging::new(alloc, 16)?;
     let replayed = replay(&rt, alloc, 1, Chains::new(alloc, pattern)?, &gate)?;
-    let entered = gate.entered(alloc)?;
-    assert_eq!(rt; entered.as_slice(), IN_ORDER);
+    assert!(rt; gate.are(IN_ORDER));
     assert_eq!(rt; replayed.tallies.as_slice().len(), 1);
     assert_eq!(rt; sum(replayed.tallies.as_slice()), 9);
     assert_eq!(rt; replayed.drained, 0);
@@ -63,7 +63,8 @@ fn one_worker_order(rt: HostRuntime) -> Result<(), NoMemory> {
     Ok(())
 }
 
-// However many workers there are, and however heavy the pieces: each piece is run once, in the order of its chain, and is in a tally.
+// However many workers there are, and however heavy the pieces: each piece is run once, in the order of its chain, after it passed
+// the gate, and is in the tally of the worker that passed with it.
 #[test]
 fn each_piece_once(rt: HostRuntime) -> Result<(), NoMemory> {
     let alloc: Global = rt.alloc();
@@ -82,10 +83,16 @@ fn each_piece_once(rt: HostRuntime) -> Result<(), NoMemory> {
                 turns,
                 spot_every,
             };
-            let gate = Counting::new(alloc, pattern)?;
-            let replayed = replay(&rt, alloc, workers, Chains::new(alloc, pattern)?, &gate)?;
+            let machine = Chains::new(alloc, pattern)?;
+            let runs = machine.runs()?;
+            let gate = Counting::new(alloc, chains, pattern.pieces(), workers, runs)?;
+            let replayed = replay(&rt, alloc, workers, machine, &gate)?;
             assert!(rt;
-                gate.is_each_once(pattern, workers),
+                is_each_once(&gate, pattern, workers) && gate.none_was_late(),
+                "{workers} workers, {chains} chains of {length}"
+            );
+            assert!(rt;
+                are_counted(&gate, pattern, replayed.tallies.as_slice()),
                 "{workers} workers, {chains} chains of {length}"
             );
             assert_eq!(rt; replayed.tallies.as_slice().len(), workers as usize);
@@ -95,6 +102,34 @@ fn each_piece_once(rt: HostRuntime) -> Result<(), NoMemory> {
         }
     }
     Ok(())
+}
+
+// Whether each piece that `workers` workers pass the gate with entered once, and no other. One worker passes it with each piece,
+// more with those that are handed out.
+fn is_each_once(gate: &Counting, pattern: Pattern, workers: u32) -> bool {
+    let mut at = 0;
+    for count in gate.pieces() {
+        let passes = workers == 1 || pattern.is_handed_out(at);
+        if count.load(Ordering::SeqCst) != u64::from(passes) {
+            return false;
+        }
+        at += 1;
+    }
+    true
+}
+
+// Whether each worker entered with the pieces in its tally: with all of them where none is run on the spot, else with no more.
+fn are_counted(gate: &Counting, pattern: Pattern, tallies: &[u64]) -> bool {
+    let mut worker = 0;
+    for tally in tallies {
+        let entered = gate.by_worker(worker);
+        let all_enter = tallies.len() == 1 || pattern.spot_every == 0;
+        if entered > *tally || (all_enter && entered != *tally) {
+            return false;
+        }
+        worker += 1;
+    }
+    true
 }
 
 // A worker that finds no memory, or whose result is refused, gives back what it took and ends. The others do what is left; what all
@@ -201,13 +236,12 @@ fn one_fed_worker_order(rt: HostRuntime) -> Result<(), NoMemory> {
     let alloc: Global = rt.alloc();
     let gate = Logging::new(alloc, 16)?;
     assert_eq!(rt; fed(&rt, alloc, 1, false, &gate)?, ALL_FED);
-    let entered = gate.entered(alloc)?;
-    assert_eq!(rt; entered.as_slice(), FED_IN_ORDER);
+    assert!(rt; gate.are(FED_IN_ORDER));
     Ok(())
 }
 
 // The transactions of the two batches, each in the only block.
-const FED_IN_ORDER: &[(u64, u64)] = &[(1, 0), (2, 0), (3, 0), (4, 0)];
+const FED_IN_ORDER: &[(u64, u16)] = &[(1, 0), (2, 0), (3, 0), (4, 0)];
 
 // The numbers, added up.
 fn sum(numbers: &[u64]) -> u64 {
