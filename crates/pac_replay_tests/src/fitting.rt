@@ -1,10 +1,10 @@
 // Which batch may be loaded into a core.
 use crate::cores::{core_of, plan_of, script_of};
 use crate::takes::THREE;
-use pac_bank::BANK;
 use pac_core::Core;
 use pac_ops::Batch;
 use pac_plan::Plan;
+use pac_script::BANK;
 use pac_tables::Rows;
 use std::alloc::Global;
 

@@ -8,10 +8,10 @@ ghost use Rattle.pac_core.specs.Replay.{Replay};
 use crate::cores::{may_come, script_core};
 use crate::ends::{drained, hold};
 use crate::takes::{AFTER_THREE, THREE};
-use pac_bank::BANK;
 use pac_core::{Core, Job};
 use pac_ops::Batch;
 use pac_plan::Plan;
+use pac_script::BANK;
 use pac_tables::{HashedRows, Rows};
 use std::alloc::Global;
 

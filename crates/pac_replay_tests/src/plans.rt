@@ -1,10 +1,10 @@
 // What depends on what in a procedure of the bank, and copies of a plan.
-use pac_bank::BANK;
 use pac_base::{Exact, Same};
 use pac_flat::flatten;
 use pac_global::global;
 use pac_ops::{MAX_OPS, Program};
 use pac_plan::Plan;
+use pac_script::BANK;
 use pac_slice::dependencies;
 use pac_types::{Catalogue, read_catalogue};
 use std::alloc::Global;

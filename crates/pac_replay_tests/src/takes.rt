@@ -2,9 +2,9 @@
 use crate::cores::{ADD, script_core};
 use crate::ends::{KeyedNumbers, hold, outcome_of};
 use crate::steps::{CoreStep, count_right, take};
-use pac_bank::BANK;
 use pac_core::Core;
 use pac_piece::Done;
+use pac_script::BANK;
 use pac_tables::Rows;
 use std::alloc::Global;
 

@@ -1,3 +1,4 @@
+pub mod BankText
 pub mod Lines
 pub mod Batches
 pub mod Cutting

@@ -4,7 +4,8 @@
 //!   [`ScriptFault`].
 //! - [`read_accepted`]: the catalogue of a text, where a database takes it. [`excess_fault`]: too many operations of a catalogue, as
 //!   a script's fault.
-//! - [`stress_txn`]: the transactions of the stress test.
+//! - [`stress_txn`]: the transactions of the stress test. [`BANK`]: the text of the catalogue over which it runs; [`bank_text`] returns
+//!   it as the one that `specs/BankText.antt` spells.
 //!
 //! ```
 //! use pac_script::read_script;
@@ -20,6 +21,7 @@
 #![tactic(auto)]
 
 mod accepted;
+mod bank;
 mod batcher;
 mod lines;
 mod script;
@@ -28,6 +30,7 @@ mod step;
 mod stress;
 
 pub use accepted::read_accepted;
+pub use bank::{BANK, bank_text};
 pub use script::{Script, read_script};
 pub use script_fault::{ScriptError, ScriptFault, excess_fault};
 pub use stress::stress_txn;

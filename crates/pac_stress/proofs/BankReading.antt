@@ -19,7 +19,7 @@ use Rattle.pac_syntax.specs.Machine.{feed, finish, scan, start}
 use Rattle.pac_syntax.specs.Reading.{Reads}
 use Rattle.pac_syntax.proofs.Meets.{reads_ok}
 use Rattle.pac_script.specs.Stress.{number}
-use Rattle.pac_bank.specs.BankText.{bank_text}
+use Rattle.pac_script.specs.BankText.{bank_text}
 use Rattle.pac_stress.proofs.Tokens.{lexed_as, tokens_from}
 
 -- ---- the tree, by the offset of each name and expression

@@ -38,7 +38,7 @@ use Rattle.pac_types.specs.OperationLimits.{HasFewOperations}
 use Rattle.pac_types.specs.Typing.{CatalogueState}
 use Rattle.pac_types.proofs.StmtForms.{at-Read, at-Put, at-If}
 use Rattle.pac_types.proofs.TypingLemmas.{tree_typed}
-use Rattle.pac_bank.specs.BankText.{bank_text}
+use Rattle.pac_script.specs.BankText.{bank_text}
 use Rattle.pac_stress.specs.BankCatalogue.{bank_catalogue, bank_tables, deposit_proc, transfer_proc}
 use Rattle.pac_stress.proofs.BankReading.{bank_reads, bank_tree, deposit_node, literal_of, name_at, named, number_at, transfer_node}
 

@@ -24,9 +24,10 @@ use Rattle.pac_serial.specs.declared.serial.AllError.{AllError}
 use Rattle.pac_serial.specs.declared.serial.AllError.TheVariants.{Abort, NoMemory}
 use Rattle.pac_stress.specs.BankCatalogue.{bank_catalogue}
 use Rattle.pac_stress.specs.StressBatches.{stress_batches}
-use Rattle.pac_stress.specs.Stressed.{Finishes, GivesNoSummary, HavePieces}
+use Rattle.pac_stress.specs.Stressed.{AbortsStress, Finishes, GivesNoSummary, HavePieces}
 use Rattle.pac_stress.proofs.BankTyping.{bank-has}
 use Rattle.pac_stress.proofs.BatchRuns.{in-batches}
+use Rattle.pac_stress.proofs.NoAborts.{more-than-few}
 
 module _ (cat : CatalogueState) (plan : PlanParts) (replays : ReplaysTheSame cat.procs plan.programs) (batches : List Batch) where
   abbrev left : Replayed
@@ -54,7 +55,8 @@ pieces-are cat plan batches count programs tables analysis counted = record { pl
 pub no-summary-as : (count : ℕ) (cat : CatalogueState) (batches : List Batch) (error : AllError) → cat ≡ bank_catalogue → batches ≡ stress_batches count
     → Finishes cat batches (serial cat.procs 1 (txns_in batches) empty) (Err error) → GivesNoSummary count error
 no-summary-as count cat batches (Abort note) same are h =
-    (bank_catalogue, bank-has, sym (ap (λ (txns : List Txn). serial bank_catalogue.procs 1 txns empty) (ap txns_in are ∙ in-batches count)) ∙ sym (ap (λ (c : CatalogueState). serial c.procs 1 (txns_in batches) empty) same) ∙ h)
+    let aborts : AbortsStress count note = (bank_catalogue, bank-has, sym (ap (λ (txns : List Txn). serial bank_catalogue.procs 1 txns empty) (ap txns_in are ∙ in-batches count)) ∙ sym (ap (λ (c : CatalogueState). serial c.procs 1 (txns_in batches) empty) same) ∙ h) in
+    (aborts, more-than-few count note aborts)
 no-summary-as count cat batches NoMemory same are h = tt
 
 -- an error that came has its cause

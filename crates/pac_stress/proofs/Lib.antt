@@ -5,4 +5,5 @@ pub mod BankFits
 pub mod BatchRuns
 pub mod PieceCounts
 pub mod Finishing
-pub mod OneSummary
+pub mod NoAborts
+mod OneSummary

@@ -1,5 +1,5 @@
 -- What the stress test ends with.
-use Rattle.std.specs.Prelude.{◌≡◌, ℕ, List, map, length, Result, Ok, Err}
+use Rattle.std.specs.Prelude.{◌≡◌, ◌<◌, ℕ, List, map, length, Result, Ok, Err}
 use Rattle.std.specs.FinMap.{empty}
 use Rattle.pac_value.specs.State.{Tables}
 use Rattle.pac_ops.specs.declared.batch.Batch.{Batch}
@@ -16,7 +16,7 @@ use Rattle.pac_types.specs.Typing.{CatalogueState}
 use Rattle.pac_flat.specs.FlatForm.{program_of}
 use Rattle.pac_serial.specs.declared.serial.AllError.{AllError}
 use Rattle.pac_serial.specs.declared.serial.AllError.TheVariants.{Abort, NoMemory}
-use Rattle.pac_bank.specs.BankText.{bank_text}
+use Rattle.pac_script.specs.BankText.{bank_text}
 use Rattle.pac_stress.specs.StressBatches.{stress_txns, stress_batches}
 use Rattle.pac_stress.specs.Summary.{summary}
 use Rattle.pac_stress.specs.declared.execution.Finished.{Finished}
@@ -59,7 +59,7 @@ pub record IsSummaryOf (count : ℕ) (P : List ℕ → Type 0) : Type 0 where
 abbrev pub AbortsStress : ℕ → Note → Type 0
 AbortsStress count note = (catalogue : CatalogueState) × HasCatalogue bank_text catalogue × (stress_outcome catalogue count ≡ Err note)
 
--- why there is no summary
+-- why there is no summary: of at most 100,000 transactions none aborts
 abbrev pub GivesNoSummary : ℕ → AllError → Type 0
-GivesNoSummary count (Abort note) = AbortsStress count note
+GivesNoSummary count (Abort note) = AbortsStress count note × (100000 < count)
 GivesNoSummary count NoMemory = Unit {0}

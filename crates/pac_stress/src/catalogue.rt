@@ -2,10 +2,10 @@
 ghost use Rattle.std.specs.Prelude.{◌≡◌, IfOk};
 ghost use Rattle.pac_types.specs.CatalogueText.{HasCatalogue};
 ghost use Rattle.pac_types.specs.OperationLimits.{HasFewOperations};
-ghost use Rattle.pac_bank.specs.BankText.{bank_text};
+ghost use Rattle.pac_script.specs.BankText.{bank_text};
 ghost use Rattle.pac_stress.specs.BankCatalogue.{bank_catalogue};
 
-use pac_bank::bank_text;
+use pac_script::bank_text;
 use pac_base::{NoMemory, Refusal};
 use pac_types::{Catalogue, read_catalogue};
 use std::alloc::Global;

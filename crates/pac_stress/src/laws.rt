@@ -1,5 +1,5 @@
 // What holds of how the stress test ends. Each law is a function without code.
-ghost use Rattle.std.specs.Prelude.{◌≡◌, ℕ, List};
+ghost use Rattle.std.specs.Prelude.{◌≡◌, ◌≤◌, ℕ, List};
 ghost use Rattle.pac_ops.specs.declared.batch.Batch.{Batch as ABatch};
 ghost use Rattle.pac_ops.specs.declared.note.Note.{Note as ANote};
 ghost use Rattle.pac_types.specs.Typing.{CatalogueState};
@@ -8,6 +8,11 @@ ghost use Rattle.pac_stress.specs.Stressed.{AbortsStress, HavePieces, IsSummaryO
 /// Over a catalogue, the transactions of batches have one number of pieces: a catalogue has one plan.
 pub fn one_number_of_pieces()
     ensures { (catalogue : CatalogueState) (batches : List ABatch) (count other : ℕ) → HavePieces catalogue batches count → HavePieces catalogue batches other → count ≡ other }
+{}
+
+/// Up to 100,000, no transaction of the stress test aborts: from no rows on, no account comes near the limits of an int.
+pub fn none_aborts()
+    ensures { (count : ℕ) (note : ANote) → count ≤ 100000 → ¬ AbortsStress count note }
 {}
 
 /// The first transactions of the stress test, however many, have one summary, and where they have one none of them aborts.

@@ -17,8 +17,8 @@ use std::thread::Threads;
 ///
 /// # Errors
 ///
-/// [`AllError::Abort`] only where serial execution of the transactions aborts, or [`AllError::NoMemory`] where an allocation is
-/// refused.
+/// [`AllError::NoMemory`] where an allocation is refused. [`AllError::Abort`] only where serial execution of the transactions aborts,
+/// which it doesn't for `count` up to 100,000: [`none_aborts`](crate::none_aborts).
 pub fn stress_summary<H: Threads + Wait + Sync, G: Gate + Sync>(
     rt: &H,
     alloc: Global,

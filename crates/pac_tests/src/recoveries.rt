@@ -1,8 +1,8 @@
 // Recoveries by workers, through the top call: who passes the gate, and what they write.
 use crate::replays::{IN_ORDER, no_devices, sink_of};
-use pac_bank::BANK;
 use pac_main::pacman;
 use pac_outside::{Devices, Gate, MemDisk, MemSource, OpenGate};
+use pac_script::BANK;
 use pac_worker_tests::gates::{Logging, Meeting};
 use std::alloc::{AllocError, Global};
 use std::sync::Wait;

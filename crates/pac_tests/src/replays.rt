@@ -1,8 +1,8 @@
 // Replays and stress tests by workers, through the top call: who passes the gate.
 use crate::streams::OneByte;
-use pac_bank::BANK;
 use pac_main::pacman;
 use pac_outside::{Devices, Gate, MemDisk, MemSink, MemSource};
+use pac_script::BANK;
 use pac_worker_tests::gates::{Logging, Meeting};
 use std::alloc::{AllocError, Global};
 use std::sync::Wait;

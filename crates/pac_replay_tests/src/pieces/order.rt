@@ -5,10 +5,10 @@ ghost use Rattle.pac_sets.specs.SetOrder.{set_cmp};
 ghost use Rattle.pac_sets.specs.Sets.{AreLeft};
 
 use super::plan_code;
-use pac_bank::BANK;
 use pac_base::Listed;
 use pac_interface::{Interface, interfaces};
 use pac_keys::PlanCode;
+use pac_script::BANK;
 use pac_sets::{Kept, SetId, Sets};
 use pac_types::read_catalogue;
 use std::alloc::Global;

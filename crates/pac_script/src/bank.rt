@@ -1,17 +1,6 @@
-//! The catalogue of a bank, as a text: the stress test runs over it, and so do tests of the replay.
-//!
-//! [`BANK`] is the text, and [`bank_text`] returns it as the one that `specs/BankText.antt` spells. That it is read, and
-//! as which catalogue, is proved in `pac_stress`.
-//!
-//! ```
-//! use pac_bank::bank_text;
-//!
-//! let text = bank_text(); // begins with `table Family(key int, spouse int);`
-//! ```
-#![tactic(auto)]
-
+// The text of the bank's catalogue: the stress test runs over it, and so do tests of the replay.
 ghost use Rattle.std.specs.Prelude.{◌≡◌};
-ghost use Rattle.pac_bank.specs.BankText.{bank_text};
+ghost use Rattle.pac_script.specs.BankText.{bank_text};
 
 /// The text of the bank's catalogue, in canonical form. It has the tables `Family`, `Current`, `Saving` and `Stats`, each of one
 /// int by an int, and the procedures `Transfer` and `Deposit`.
@@ -42,7 +31,7 @@ proc Deposit(name int, amount int, nation int) {
 }
 ";
 
-/// The same, as the definitions have it.
+/// The same, as the definitions have it. That it is read, and as which catalogue, is proved in `pac_stress`.
 pub fn bank_text() -> &'static [u8]
     ensures { result.now ≡ bank_text }
 {
