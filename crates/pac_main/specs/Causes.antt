@@ -14,7 +14,7 @@ use Rattle.pac_recover.specs.Refusals.{AreRefused, HasDamage, HasNoStore, IfImag
 use Rattle.pac_script.specs.declared.script.Script.{Script}
 use Rattle.pac_run.specs.declared.stop.RunStop.{RunStop}
 use Rattle.pac_run.specs.declared.stop.RunStop.TheVariants as run
-use Rattle.pac_stress.specs.Stressed.{AbortsStress, IsSummaryOf}
+use Rattle.pac_stress.specs.Stressed.{IsSummaryOf}
 use Rattle.pac_main.specs.declared.input.InputError.{InputError}
 use Rattle.pac_main.specs.declared.input.InputError.TheVariants as input
 use Rattle.pac_main.specs.declared.stop.Stop.{Stop}
@@ -62,7 +62,6 @@ ReplayStops limit source sink (stop.TooLarge bytes) = ⊥
 
 -- the whole command
 abbrev pub StressStops : ℕ → Observed → Stop → Type 0
-StressStops count sink (stop.Aborted note) = AbortsStress count note
 StressStops count sink stop.OutputFault = AnyFaulted sink × IsSummaryOf count (IsPrefixTaken sink)
 StressStops count sink stop.NoMemory = Unit {0}
 StressStops count sink _ = ⊥

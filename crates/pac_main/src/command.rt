@@ -54,7 +54,7 @@ use std::thread::Threads;
 /// | 3 | only where a device of a store that is to be made has a byte; the first of the log, slot a and slot b | `not empty DEVICE LENGTH` |
 /// | 3 | only where the log of a store that is to be recovered or run doesn't begin as one | `no store` |
 /// | 3 | or where it is damaged: its first damage, of the log, slot a and slot b, and then of the slots' offsets in the log | `damaged DEVICE AT KIND` |
-/// | 4 | only where serial execution of the transactions of a replay or a stress test, or of those that are stored, aborts | `abort TXN OP REASON` |
+/// | 4 | only where serial execution of the transactions of a replay, or of those that are stored, aborts | `abort TXN OP REASON` |
 /// | 5 | only where they end with a table that has more rows than the limit; the first | `rows TABLE ROWS LIMIT` |
 /// | 6 | only where the input's count of faults rose | `input fault` |
 /// | 7 | only where the output's count of faults rose; the output took a prefix of its text | `output fault` |
@@ -88,8 +88,7 @@ pub fn pacman<RT: Threads + Wait + Sync, I: Source, O: Sink, E: Sink, D: Disk, G
         (observed_devices D.known D.faults devices.old devices.new) (observed O.held O.faults output.old output.new) (observed E.held E.faults errors.old errors.new) }
     ensures replay { (limit : ℕ) → IsReplay arguments.now limit → ReplayEnds limit result
         (observed I.left I.faults input.old input.new) (observed O.held O.faults output.old output.new) (observed E.held E.faults errors.old errors.new) }
-    ensures stress { (count : ℕ) → IsStress arguments.now count → StressEnds count result
-        (observed O.held O.faults output.old output.new) (observed E.held E.faults errors.old errors.new) }
+    ensures stress { (count : ℕ) → IsStress arguments.now count → StressEnds count result (observed O.held O.faults output.old output.new) }
     ensures explain { (with_text : Bool) → IsExplain arguments.now with_text → ExplainEnds with_text result
         (observed I.left I.faults input.old input.new) (observed O.held O.faults output.old output.new) (observed E.held E.faults errors.old errors.new) }
 

@@ -15,7 +15,7 @@ use std::alloc::Global;
 use std::sync::Wait;
 use std::thread::Threads;
 
-// Executes `count` transactions of the stress test, and writes the summary.
+// Executes `count` transactions of the stress test, of which none aborts, and writes the summary.
 fn write_summary<H: Threads + Wait + Sync, O: Sink, G: Gate + Sync>(
     rt: &H,
     alloc: Global,
@@ -25,6 +25,7 @@ fn write_summary<H: Threads + Wait + Sync, O: Sink, G: Gate + Sync>(
     gate: &G,
 ) -> Result<(), Stop>
     requires workers { 1 ≤ workers }
+    requires few { count ≤ 100000 }
     ensures done { OnOk result (IsSummaryOf count (IsTaken (observed O.held O.faults output.old output.new))) }
     ensures stops { IfErr result (StressStops count (observed O.held O.faults output.old output.new)) }
     ensures kept { IfErr result (λ stop. stop ≢ Stop.OutputFault → output.new ≡ output.old) }
@@ -45,7 +46,8 @@ pub(crate) fn stress_output<H: Threads + Wait + Sync, O: Sink, E: Sink, G: Gate 
     gate: &G,
 ) -> u8
     requires workers { 1 ≤ workers }
-    ensures ends { StressEnds count result (observed O.held O.faults output.old output.new) (observed E.held E.faults errors.old errors.new) }
+    requires few { count ≤ 100000 }
+    ensures ends { StressEnds count result (observed O.held O.faults output.old output.new) }
     ensures kept { result ≢ 0 → result ≢ 7 → output.new ≡ output.old }
     ensures quiet { result ≡ 0 → errors.new ≡ errors.old }
     ensures reported { result ≢ 0 → (stop : AStop) × (result ≡ status_of stop) × IsReported (observed E.held E.faults errors.old errors.new) (line_of stop) }

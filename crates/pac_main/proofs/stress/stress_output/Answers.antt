@@ -8,12 +8,11 @@ pub returns-in-Ok-clause-ends : goal.returns-in-Ok-clause-ends
 returns-in-Ok-clause-ends g c = record {
   statuses = refl;
   done = λ zero. c.in-Ok.ensures.done;
-  aborted = λ four. absurd (omega (arith, four));
   output_fault = λ seven. absurd (omega (arith, seven));
+  complete = λ none. refl;
 }
 
 pub returns-in-Err-clause-ends : goal.returns-in-Err-clause-ends
 returns-in-Err-clause-ends g c = stress-ends c.args.count
     (observed g.O.Sink.held g.O.Sink.faults c.args.output.now c.write_summary.new.output)
-    (observed g.E.Sink.held g.E.Sink.faults c.args.errors.now c.report.new.errors)
-    c.in-Err.stop c.report.result c.status.result c.status.ensures c.report.ensures.which c.in-Err.ensures.stops c.report.ensures.line
+    c.in-Err.stop c.report.result c.status.result c.status.ensures c.report.ensures.which c.in-Err.ensures.stops

@@ -12,7 +12,7 @@ pub returns-in_err-text-clause-stops : goal.returns-in_err-text-clause-stops
 returns-in_err-text-clause-stops g c =
     let p = err_from_is_err_and c.from_residual.result c.from_residual.ensures.1 in
     let sink = observed g.O.Sink.held g.O.Sink.faults c.args.output.now c.args.output.now in
-    if_err (StressStops c.args.count sink) c.from_residual.result p.0 p.1 (subst (StressStops c.args.count sink) (sym p.2) (no-summary c.args.count sink c.in_err-text.field-0.0 c.in_err-text.ensures.stops))
+    if_err (StressStops c.args.count sink) c.from_residual.result p.0 p.1 (subst (StressStops c.args.count sink) (sym p.2) (no-summary c.args.count sink c.requires.few c.in_err-text.field-0.0 c.in_err-text.ensures.stops))
 
 pub returns-in_err-write_all-clause-stops : goal.returns-in_err-write_all-clause-stops
 returns-in_err-write_all-clause-stops g c =
