@@ -73,17 +73,19 @@ pub trait Machine: Drop {
     fn unfinished(&self) -> u64
         ensures { result ≡ left self.now };
 
-    /// How much is ready. Workers rest, are woken and share by it; what they leave doesn't depend on it. It may be an estimate. It is to
-    /// count what a take may find ready, so that nobody rests beside that.
+    /// How much is ready. Workers rest, are woken and share by it; what they leave doesn't depend on it, so it has no clause. It may be an
+    /// estimate, but is to count what a take may find ready, so that nobody rests beside that.
     fn ready(&self) -> Ready;
 
-    /// Which piece the work is of.
+    /// Which piece the work is of. The gate is told; what workers leave doesn't depend on it, so it has no clause.
     fn piece(work: &Self::Work) -> PieceId;
 
-    /// What the work weighs: how many operations it has beyond those that cost as much as handing it out.
+    /// What the work weighs: how many operations it has beyond those that cost as much as handing it out. It is an estimate, by which
+    /// workers share, and has no clause.
     fn weight(work: &Self::Work) -> u64;
 
-    /// Does the work. It needs no machine, and so no lock.
+    /// Does the work. It needs no machine, and so no lock. Of its result there is no clause: [`Machine::finish`] refuses what isn't the
+    /// machine's own.
     ///
     /// # Errors
     ///
@@ -91,7 +93,7 @@ pub trait Machine: Drop {
     fn run(alloc: Global, work: Self::Work) -> Result<Self::Done, (Self::Work, NoMemory)>
         requires { can_run work };
 
-    /// The work again.
+    /// The work again, to be given back. It has no clause: a machine knows its own work.
     fn into_work(done: Self::Done) -> Self::Work;
 
     /// No more pieces come.
