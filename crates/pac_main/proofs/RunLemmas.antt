@@ -3,13 +3,14 @@ use Rattle.std.proofs.Common.{◌≡◌, ◌≢◌, ◌⊎◌, ℕ, Bool, true, 
 use Rattle.std.specs.Prelude.{IsTrue}
 use Rattle.std.proofs.Math.Seq.{take-nil}
 use Rattle.pac_ops.specs.declared.transaction.Txn.{Txn}
-use Rattle.pac_outside.specs.Devices.{OneFaulted}
+use Rattle.pac_outside.specs.Devices.{OneFaulted, each}
 use Rattle.pac_outside.specs.Disk.{DiskHistory}
+use Rattle.pac_outside.specs.Parts.{reads_of}
 use Rattle.pac_outside.specs.declared.devices.Devices.{Devices}
-use Rattle.pac_outside.proofs.Runs.{three}
 use Rattle.pac_types.specs.Typing.{CatalogueState}
-use Rattle.pac_store.specs.Images.{Images, IfReadKnown}
+use Rattle.pac_store.specs.Images.{IfImagesKnown}
 use Rattle.pac_store.specs.Stands.{StandsFor}
+use Rattle.pac_store.proofs.ImageLemmas.{images-any, images-then, where-known}
 use Rattle.pac_recover.specs.declared.errors.Damage.TheVariants.{Log, Slot}
 use Rattle.pac_recover.specs.declared.errors.LoadError.TheVariants as load
 use Rattle.pac_recover.specs.declared.errors.RecoverError.{RecoverError}
@@ -43,16 +44,16 @@ use Rattle.pac_main.proofs.StopLemmas.{Reported}
 abbrev pub IsStop : RunStop → RunStop → Type 0
 IsStop why other = ◌≡◌ {A = Result (Unit {0}) RunStop} (Err why) (Err other)
 
-module _ (limit : ℕ) (source sink : Observed) (log a b : Option DiskHistory) (was is : Devices ℕ) where
+module _ (limit : ℕ) (source sink : Observed) (before : Devices (Option DiskHistory)) (was is : Devices ℕ) where
   -- what a run says with its stop
   pub record ReportsStop (why : RunStop) : Type 0 where
-    pub refused : (error : RecoverError) → IsStop why (run.Opening error) → AreRefused limit (three log a b) error
+    pub refused : (error : RecoverError) → IsStop why (run.Opening error) → AreRefused limit before error
     pub input_fault : IsStop why run.InputFault → AnyFaulted source
     pub output_fault : IsStop why run.OutputFault → AnyFaulted sink
     pub disk_fault : DeviceFailed why → OneFaulted was is
 
   module _ (after : Devices (Option DiskHistory)) where
-    pub run-cause : (why : RunStop) → ReportsStop why → RunCause limit source sink (record { before = three log a b; after = after; faults_before = was; faults_after = is }) why
+    pub run-cause : (why : RunStop) → ReportsStop why → RunCause limit source sink (record { before = before; after = after; faults_before = was; faults_after = is }) why
     run-cause (run.Opening error) h = (h.refused error refl, h.disk_fault)
     run-cause run.InputFault h = h.input_fault refl
     run-cause run.OutputFault h = h.output_fault refl
@@ -73,46 +74,30 @@ IsPrefixStop limit catalogue history least (run.Opening (recover.RowsOver name r
 IsPrefixStop limit catalogue history least _ = Unit {0}
 
 module _ (limit : ℕ) (source sink : Observed) (after : Devices (Option DiskHistory)) (was is : Devices ℕ) (text : List ℕ) (catalogue : CatalogueState) (history : List Txn) (least : ℕ) where
-  abbrev held_by : Option DiskHistory → Option DiskHistory → Option DiskHistory → ObservedDevices
-  held_by log a b = record { before = three log a b; after = after; faults_before = was; faults_after = is }
+  abbrev held_by : Devices (Option DiskHistory) → ObservedDevices
+  held_by before = record { before = before; after = after; faults_before = was; faults_after = is }
 
-  prefix_here : (l x y : DiskHistory) (why : RunStop) → RunCause limit source sink (held_by (Some l) (Some x) (Some y)) why
-      → StandsFor text catalogue history least (record { log = l.now.seen; slot_a = x.now.seen; slot_b = y.now.seen }) → IsPrefixStop limit catalogue history least why
-  prefix_here l x y (run.Opening (recover.Load load.NoStore)) h stands = is-store text catalogue history least (record { log = l.now.seen; slot_a = x.now.seen; slot_b = y.now.seen }) stands h.0
-  prefix_here l x y (run.Opening (recover.Load (load.Damaged (Log at kind)))) h stands = no-log-damage text catalogue history least (record { log = l.now.seen; slot_a = x.now.seen; slot_b = y.now.seen }) stands at kind h.0
-  prefix_here l x y (run.Opening (recover.Load (load.Damaged (Slot slot at kind)))) h stands = no-slot-damage text catalogue history least (record { log = l.now.seen; slot_a = x.now.seen; slot_b = y.now.seen }) stands slot at kind h.0
-  prefix_here l x y (run.Opening (recover.Load load.DiskFault)) h stands = tt
-  prefix_here l x y (run.Opening (recover.Load load.NoMemory)) h stands = tt
-  prefix_here l x y (run.Opening (recover.AbortInLog note)) h stands = no-abort text catalogue history least (record { log = l.now.seen; slot_a = x.now.seen; slot_b = y.now.seen }) stands note h.0
-  prefix_here l x y (run.Opening (recover.RowsOver name rows most)) h stands = over-prefix text catalogue history least (record { log = l.now.seen; slot_a = x.now.seen; slot_b = y.now.seen }) stands name rows limit h.0.1
-  prefix_here l x y run.InputFault h stands = tt
-  prefix_here l x y run.OutputFault h stands = tt
-  prefix_here l x y run.DiskFault h stands = tt
-  prefix_here l x y run.NoMemory h stands = tt
-  prefix_here l x y (run.LogFull need) h stands = tt
-  prefix_here l x y run.TooLong h stands = tt
-  prefix_here l x y (run.TooLarge bytes) h stands = tt
+  prefix_here : (known : Devices DiskHistory) (why : RunStop) → RunCause limit source sink (held_by (each Some known)) why → StandsFor text catalogue history least (reads_of known) → IsPrefixStop limit catalogue history least why
+  prefix_here known (run.Opening (recover.Load load.NoStore)) h stands = is-store text catalogue history least (reads_of known) stands h.0
+  prefix_here known (run.Opening (recover.Load (load.Damaged (Log at kind)))) h stands = no-log-damage text catalogue history least (reads_of known) stands at kind h.0
+  prefix_here known (run.Opening (recover.Load (load.Damaged (Slot slot at kind)))) h stands = no-slot-damage text catalogue history least (reads_of known) stands slot at kind h.0
+  prefix_here known (run.Opening (recover.Load load.DiskFault)) h stands = tt
+  prefix_here known (run.Opening (recover.Load load.NoMemory)) h stands = tt
+  prefix_here known (run.Opening (recover.AbortInLog note)) h stands = no-abort text catalogue history least (reads_of known) stands note h.0
+  prefix_here known (run.Opening (recover.RowsOver name rows most)) h stands = over-prefix text catalogue history least (reads_of known) stands name rows limit h.0.1
+  prefix_here known run.InputFault h stands = tt
+  prefix_here known run.OutputFault h stands = tt
+  prefix_here known run.DiskFault h stands = tt
+  prefix_here known run.NoMemory h stands = tt
+  prefix_here known (run.LogFull need) h stands = tt
+  prefix_here known run.TooLong h stands = tt
+  prefix_here known (run.TooLarge bytes) h stands = tt
 
-  pub run-prefix : (log a b : Option DiskHistory) (why : RunStop) → RunCause limit source sink (held_by log a b) why
-      → IfReadKnown (λ images. StandsFor text catalogue history least images → IsPrefixStop limit catalogue history least why) log a b
-  run-prefix None a b why h = tt
-  run-prefix (Some l) None b why h = tt
-  run-prefix (Some l) (Some x) None why h = tt
-  run-prefix (Some l) (Some x) (Some y) why h = prefix_here l x y why h
+  pub run-prefix : (before : Devices (Option DiskHistory)) (why : RunStop) → RunCause limit source sink (held_by before) why
+      → IfImagesKnown (λ images. StandsFor text catalogue history least images → IsPrefixStop limit catalogue history least why) before
+  run-prefix before why = where-known (λ d. RunCause limit source sink (held_by d) why) (λ images. StandsFor text catalogue history least images → IsPrefixStop limit catalogue history least why) (λ known. prefix_here known why) before
 
 -- ---- how the command ends
-
-read_then : (P Q : Images → Type 0) → ((images : Images) → P images → Q images) → (log a b : Option DiskHistory) → IfReadKnown P log a b → IfReadKnown Q log a b
-read_then P Q f None a b h = tt
-read_then P Q f (Some l) None b h = tt
-read_then P Q f (Some l) (Some x) None h = tt
-read_then P Q f (Some l) (Some x) (Some y) h = f _ h
-
-read_any : (P : Images → Type 0) → ((images : Images) → P images) → (log a b : Option DiskHistory) → IfReadKnown P log a b
-read_any P f None a b = tt
-read_any P f (Some l) None b = tt
-read_any P f (Some l) (Some x) None = tt
-read_any P f (Some l) (Some x) (Some y) = f _
 
 -- a status that no stored cause has
 other_prefix : (limit n : ℕ) (catalogue : CatalogueState) (history : List Txn) (least : ℕ) → n ≢ 3 → n ≢ 4 → n ≢ 5 → RunsOnPrefix limit n catalogue history least
@@ -201,9 +186,9 @@ none_given rules place start requests given (run.LogFull need) early (inr at) = 
 none_given rules place start requests given run.TooLong early (inr at) = let no : ◌≡◌ {A = Bool} false true = early in absurd cc
 none_given rules place start requests given (run.TooLarge bytes) early (inr at) = let no : ◌≡◌ {A = Bool} false true = early in absurd cc
 
-module _ (group_size limit : ℕ) (source sink errors : Observed) (log a b : Option DiskHistory) (after : Devices (Option DiskHistory)) (was is : Devices ℕ) where
+module _ (group_size limit : ℕ) (source sink errors : Observed) (before after : Devices (Option DiskHistory)) (was is : Devices ℕ) where
   abbrev devices : ObservedDevices
-  devices = record { before = three log a b; after = after; faults_before = was; faults_after = is }
+  devices = record { before = before; after = after; faults_before = was; faults_after = is }
 
   abbrev Ran : Result (Unit {0}) RunStop → Type 0
   Ran end = IsRun group_size limit source.before source.after sink.before sink.after devices.before devices.after (AnyFaulted sink) end
@@ -245,8 +230,8 @@ module _ (group_size limit : ℕ) (source sink errors : Observed) (log a b : Opt
     end = Err why;
     is = ran;
     stands = λ text catalogue history least.
-        read_then (λ images. StandsFor text catalogue history least images → IsPrefixStop limit catalogue history least why) (λ images. StandsFor text catalogue history least images → RunsOnPrefix limit (status_of (stop_of_run why)) catalogue history least)
-        (λ images f stands. prefix_of limit catalogue history least why (f stands)) log a b (run-prefix limit source sink after was is text catalogue history least log a b why h);
+        images-then (λ images. StandsFor text catalogue history least images → IsPrefixStop limit catalogue history least why) (λ images. StandsFor text catalogue history least images → RunsOnPrefix limit (status_of (stop_of_run why)) catalogue history least)
+        (λ images f stands. prefix_of limit catalogue history least why (f stands)) before (run-prefix limit source sink after was is text catalogue history least before why h);
     done = λ zero. absurd (run_never_done why zero);
     refused = λ three. (refuses_of why (subst (λ (m : ℕ). IsOneOf m (3 ∷ 4 ∷ 5 ∷ [])) (sym three) refl), refused why (run_refused_of why three) h line);
     aborted = λ four. let t = run_aborted_of why four in (t.note, end_is why (run.Opening (recover.AbortInLog t.note)) t.is, (subst Cause t.is h).0, subst LineReported t.is line);
@@ -272,8 +257,8 @@ module _ (group_size limit : ℕ) (source sink errors : Observed) (log a b : Opt
     end = end;
     is = ran;
     stands = λ text catalogue history least.
-        read_any (λ images. StandsFor text catalogue history least images → RunsOnPrefix limit n catalogue history least)
-        (λ images stands. other_prefix limit n catalogue history least (λ e. absurd (omega (arith, nine, e))) (λ e. absurd (omega (arith, nine, e))) (λ e. absurd (omega (arith, nine, e)))) log a b;
+        images-any (λ images. StandsFor text catalogue history least images → RunsOnPrefix limit n catalogue history least)
+        (λ images stands. other_prefix limit n catalogue history least (λ e. absurd (omega (arith, nine, e))) (λ e. absurd (omega (arith, nine, e))) (λ e. absurd (omega (arith, nine, e)))) before;
     done = λ e. absurd (omega (arith, nine, e));
     refused = λ e. absurd (omega (arith, nine, e));
     aborted = λ e. absurd (omega (arith, nine, e));
@@ -300,8 +285,8 @@ module _ (group_size limit : ℕ) (source sink errors : Observed) (log a b : Opt
     end = Ok tt;
     is = ran;
     stands = λ text catalogue history least.
-        read_any (λ images. StandsFor text catalogue history least images → RunsOnPrefix limit 0 catalogue history least)
-        (λ images stands. other_prefix limit 0 catalogue history least (λ e. absurd (omega (arith, e))) (λ e. absurd (omega (arith, e))) (λ e. absurd (omega (arith, e)))) log a b;
+        images-any (λ images. StandsFor text catalogue history least images → RunsOnPrefix limit 0 catalogue history least)
+        (λ images stands. other_prefix limit 0 catalogue history least (λ e. absurd (omega (arith, e))) (λ e. absurd (omega (arith, e))) (λ e. absurd (omega (arith, e)))) before;
     done = λ e. refl;
     refused = λ e. absurd (omega (arith, e));
     aborted = λ e. absurd (omega (arith, e));
@@ -323,6 +308,6 @@ module _ (group_size limit : ℕ) (source sink errors : Observed) (log a b : Opt
 abbrev pub still : Option (List ℕ) → ℕ → Observed
 still bytes faults = record { before = bytes; after = bytes; faults_before = faults; faults_after = faults }
 
-pub run-idle : (group_size limit n : ℕ) (left held : Option (List ℕ)) (reads writes : ℕ) (log a b : Option DiskHistory) (faults : Devices ℕ) (errors : Observed) → n ≡ 9 → RunEnds group_size limit n (still left reads) (still held writes) errors (uncalled log a b faults)
-run-idle group_size limit n left held reads writes log a b faults errors nine =
-    run-memory group_size limit (still left reads) (still held writes) errors log a b (three log a b) faults faults (Err no_memory) n nine (idle-run group_size limit left held log a b (AnyFaulted (still held writes))) refl
+pub run-idle : (group_size limit n : ℕ) (left held : Option (List ℕ)) (reads writes : ℕ) (known : Devices (Option DiskHistory)) (faults : Devices ℕ) (errors : Observed) → n ≡ 9 → RunEnds group_size limit n (still left reads) (still held writes) errors (uncalled known faults)
+run-idle group_size limit n left held reads writes known faults errors nine =
+    run-memory group_size limit (still left reads) (still held writes) errors known known faults faults (Err no_memory) n nine (idle-run group_size limit left held known (AnyFaulted (still held writes))) refl

@@ -8,10 +8,11 @@ use Rattle.pac_outside.specs.Disk.{DiskHistory}
 use Rattle.pac_outside.specs.declared.devices.Devices.{Devices}
 use Rattle.pac_types.specs.Execution.{first_over}
 use Rattle.pac_types.specs.Typing.{CatalogueState}
+use Rattle.pac_store.specs.Images.{IfImagesKnown}
 use Rattle.pac_store.specs.Stands.{EndsWith, StandsFor}
 use Rattle.pac_recover.specs.declared.errors.Damage.{Damage}
 use Rattle.pac_recover.specs.Recovering.{AbortsIn, IsPrefixOverLimit, IsOverIn, IsRecoveredFrom}
-use Rattle.pac_recover.specs.Refusals.{HasDamage, HasNoStore, IfImagesKnown}
+use Rattle.pac_recover.specs.Refusals.{HasDamage, HasNoStore}
 use Rattle.pac_report.specs.Dump.{tables_text}
 use Rattle.pac_main.specs.Stop.{abort_line, damaged_line, rows_line}
 use Rattle.pac_main.specs.Streams.{Observed, ObservedDevices, AnyFaulted, IsTaken, IsPrefixTaken, IsReported, IsOneOf}

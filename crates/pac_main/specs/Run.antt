@@ -4,10 +4,10 @@ use Rattle.pac_ops.specs.declared.note.Note.{Note}
 use Rattle.pac_ops.specs.declared.transaction.Txn.{Txn}
 use Rattle.pac_outside.specs.Devices.{AreSettled, IfAllKnown, OneFaulted}
 use Rattle.pac_types.specs.Typing.{CatalogueState}
+use Rattle.pac_store.specs.Images.{IfImagesKnown}
 use Rattle.pac_store.specs.Stands.{StandsFor}
 use Rattle.pac_recover.specs.Recovering.{AbortsIn, IsPrefixOverLimit, IsOverIn}
 use Rattle.pac_recover.specs.declared.errors.RecoverError.TheVariants as recover
-use Rattle.pac_recover.specs.Refusals.{IfImagesKnown}
 use Rattle.pac_run.specs.Run.{IsRun}
 use Rattle.pac_run.specs.Stopping.{DeviceFailed, RefusesStore}
 use Rattle.pac_run.specs.declared.stop.RunStop.{RunStop}

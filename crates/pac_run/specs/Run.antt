@@ -1,10 +1,10 @@
 -- What a run reads, writes and leaves.
-use Rattle.std.specs.Prelude.{◌≡◌, ◌⊎◌, ◌<◌, ◌≤◌, ℕ, List, [], ◌∷◌, ◌++◌, length, take, Option, None, IfSome, Result, IfErr, IsErrOf, OnOk}
+use Rattle.std.specs.Prelude.{◌≡◌, ◌⊎◌, ◌<◌, ◌≤◌, ℕ, List, [], ◌∷◌, ◌++◌, length, take, Option, None, Result, IfErr, IsErrOf, OnOk}
 use Rattle.std.specs.Io.KnownBytes.{prepend_known}
 use Rattle.std.specs.List.{AllByRecursion}
 use Rattle.pac_ops.specs.declared.transaction.Txn.{Txn}
 use Rattle.pac_outside.specs.Content.{Took}
-use Rattle.pac_outside.specs.Devices.{AllLeave, AreImages, RunLeaves, all_known}
+use Rattle.pac_outside.specs.Devices.{AllLeave, AreImages, RunLeaves}
 use Rattle.pac_outside.specs.Disk.{DiskHistory, DiskState, Leaves, settled}
 use Rattle.pac_outside.specs.declared.devices.Devices.{Devices}
 use Rattle.pac_outside.specs.GateByte.{OneImage}
@@ -14,7 +14,7 @@ use Rattle.pac_lines.specs.declared.limits.TheConstants.{MAX_READ}
 use Rattle.pac_types.specs.Execution.{first_over}
 use Rattle.pac_types.specs.Typing.{CatalogueState}
 use Rattle.pac_log.specs.Logs.{HoldsLog, all_txns, log_prefix}
-use Rattle.pac_store.specs.Images.{Images}
+use Rattle.pac_store.specs.Images.{Images, IfImagesKnown}
 use Rattle.pac_store.specs.Stands.{StandsFor}
 use Rattle.pac_request.specs.declared.request.Request.{Request}
 use Rattle.pac_request.specs.declared.request.Request.TheVariants as request
@@ -43,10 +43,6 @@ pub record IsBegun (rules : Rules) (place : ℕ) (start : SessionState) (images 
   pub log : HoldsLog text rules.catalogue batches images.log
   pub there : place ≡ length (log_prefix text batches)
   pub within : first_over rules.limit (length rules.catalogue.tables) start.tables ≡ None
-
--- where all devices' histories are known, what a read gives of them has P
-abbrev pub IfSeenKnown : (Images → Type 0) → Devices (Option DiskHistory) → Type 0
-IfSeenKnown P known = IfSome (all_known known) (λ devices. P (reads_of devices))
 
 -- ---- what the devices hold
 
@@ -126,7 +122,7 @@ pub record IsRun (batch limit : ℕ) (left left' held held' : Option (List ℕ))
   pub most : rules.most ≡ batch
   pub start : SessionState
   pub place : ℕ
-  pub begun : IfSeenKnown (λ images. IsUnopened result requests ⊎ IsBegun rules place start images) known
+  pub begun : IfImagesKnown (λ images. IsUnopened result requests ⊎ IsBegun rules place start images) known
   -- (a) the output is a prefix of the texts of its replies, and all of them with Ok
   pub prefix : IsTextPrefix out (texts rules.catalogue (replies rules start requests))
   pub whole : OnOk result (IsWholeRun rules place start requests out)
