@@ -1,5 +1,5 @@
 -- A run that wasn't begun, and how much a run takes from its input.
-use Rattle.std.proofs.Common.{◌≡◌, ◌++◌, ℕ, List, [], Option, Some, None, Result, Ok, Err, ◌⊎◌, inl, refl, arith}
+use Rattle.std.proofs.Common.{◌≡◌, ◌++◌, ℕ, List, [], ◌∷◌, Option, Some, None, Result, Ok, Err, ◌⊎◌, inl, refl, arith}
 use Rattle.std.specs.Prelude.{IfSome}
 use Rattle.std.specs.Io.KnownBytes.{append_known, prepend_known}
 use Rattle.std.specs.FinMap.{empty}
@@ -12,6 +12,8 @@ use Rattle.pac_outside.specs.declared.devices.Devices.{Devices}
 use Rattle.pac_types.specs.Typing.{CatalogueState}
 use Rattle.pac_store.specs.Images.{IfImagesKnown}
 use Rattle.pac_store.proofs.ImageLemmas.{images-any}
+use Rattle.pac_request.specs.declared.request.Request.{Request}
+use Rattle.pac_request.specs.declared.request.Request.TheVariants as request
 use Rattle.pac_session.specs.Session.{Rules, SessionState}
 use Rattle.pac_recover.specs.declared.errors.LoadError.TheVariants as load
 use Rattle.pac_recover.specs.declared.errors.RecoverError.TheVariants as recover
@@ -49,6 +51,10 @@ prepend_none (Some bytes) = refl
 append_none : (known : Option (List ℕ)) → known ≡ append_known known []
 append_none None = refl
 append_none (Some bytes) = let nil : bytes ++ [] ≡ bytes = append-nil bytes in cc
+
+none_saved : (before rest : List Request) → [] ≡ before ++ request.Save ∷ rest → ⊥
+none_saved [] rest e = absurd cc
+none_saved (b ∷ bs) rest e = absurd cc
 
 idle_handled : (left : Option (List ℕ)) → IfSome left (λ text. (rest : List ℕ) × (prepend_known [] left ≡ Some rest) × (text ≡ rest))
 idle_handled None = tt
@@ -112,5 +118,7 @@ idle-run group_size limit left held known faulted = record {
   given = [];
   written = record { count = 0; is = refl };
   all = inl refl;
+  fit = inl (record { before = []; rest = []; split = refl; replied = refl; fit = tt });
+  saves = λ before rest same handled. absurd (none_saved before rest same);
   stopped = inl ((recover.Load load.NoMemory, refl), refl, refl);
 }

@@ -1,5 +1,5 @@
 -- How `run` ends.
-use Rattle.std.specs.Prelude.{◌≡◌, ◌≢◌, ℕ, List, [], ◌∷◌, Result, Ok, IfErr, IsErrOf}
+use Rattle.std.specs.Prelude.{◌≡◌, ◌≢◌, ℕ, List, [], ◌∷◌, Result, Ok, IsErrAnd, IsErrOf}
 use Rattle.pac_ops.specs.declared.note.Note.{Note}
 use Rattle.pac_ops.specs.declared.transaction.Txn.{Txn}
 use Rattle.pac_outside.specs.Devices.{AreSettled, IfAllKnown, OneFaulted}
@@ -40,13 +40,13 @@ pub record RunEnds (group_size limit status : ℕ) (input output errors : Observ
       → IfImagesKnown (λ images. StandsFor text catalogue history least images → RunsOnPrefix limit status catalogue history least) devices.before
   -- the cause of each status, and its line
   pub done : status ≡ 0 → end ≡ Ok tt
-  pub refused : status ≡ 3 → IfErr end RefusesStore × IsRefusedStore devices.before errors
+  pub refused : status ≡ 3 → IsErrAnd end RefusesStore × IsRefusedStore devices.before errors
   pub aborted : status ≡ 4 → (note : Note) × IsErrOf end (run.Opening (recover.AbortInLog note)) × IfImagesKnown (AbortsIn note) devices.before × IsReported errors (abort_line note)
   pub over_limit : status ≡ 5 → (name : List ℕ) × (rows : ℕ) × IsErrOf end (run.Opening (recover.RowsOver name rows limit)) × IfImagesKnown (IsOverIn name rows limit) devices.before × IsReported errors (rows_line name rows limit)
   pub unserved : IsOneOf status (3 ∷ 4 ∷ 5 ∷ []) → is.out ≡ []
   pub input_fault : status ≡ 6 → IsErrOf end run.InputFault × AnyFaulted input
   pub output_fault : status ≡ 7 → IsErrOf end run.OutputFault × AnyFaulted output
-  pub disk_fault : status ≡ 8 → IfErr end DeviceFailed × OneFaulted devices.faults_before devices.faults_after
+  pub disk_fault : status ≡ 8 → IsErrAnd end DeviceFailed × OneFaulted devices.faults_before devices.faults_after
   pub log_full : status ≡ 10 → (need : ℕ) × IsErrOf end (run.LogFull need) × IsReported errors (full_line need)
   pub too_long : status ≡ 11 → IsErrOf end run.TooLong
   pub too_large : status ≡ 12 → (bytes : ℕ) × IsErrOf end (run.TooLarge bytes) × IsReported errors (too_large_line bytes)

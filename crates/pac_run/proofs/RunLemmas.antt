@@ -1,5 +1,5 @@
 -- The whole run.
-use Rattle.std.proofs.Common.{◌≡◌, ◌∙◌, ◌⊎◌, inl, inr, ℕ, List, [], ◌++◌, length, take, Option, Some, None, Result, Ok, Err, OnOk, refl, sym, ap, subst, arith, append_assoc, drop}
+use Rattle.std.proofs.Common.{◌≡◌, ◌∙◌, ◌⊎◌, inl, inr, ℕ, List, [], ◌∷◌, ◌++◌, length, take, Option, Some, None, Result, Ok, Err, OnOk, refl, sym, ap, subst, arith, append_assoc, drop}
 use Rattle.std.specs.Prelude.{IfErr, IfSome, IsErrOf, MatchResult}
 use Rattle.std.specs.FinMap.{empty}
 use Rattle.std.proofs.KnownBytes.{prepend_known-nil}
@@ -22,6 +22,7 @@ use Rattle.pac_store.specs.Images.{Images, IfImagesKnown}
 use Rattle.pac_store.proofs.ImageLemmas.{images-any, images-then}
 use Rattle.pac_store.specs.Stands.{StandsFor}
 use Rattle.pac_request.specs.declared.request.Request.{Request}
+use Rattle.pac_request.specs.declared.request.Request.TheVariants as request
 use Rattle.pac_request.specs.declared.request.Reply.{Reply}
 use Rattle.pac_report.specs.Replies.{reply_text}
 use Rattle.pac_session.specs.Session.{Rules, SessionState, committed, replies}
@@ -60,6 +61,10 @@ prefix-of-all catalogue given all out prefix firsts =
 
 none-begun : (P : Images → Type 0) (error : RecoverError) (known : Devices (Option DiskHistory)) → IfImagesKnown (λ images. IsUnopened (Err (Opening error)) [] ⊎ P images) known
 none-begun P error known = images-any (λ images. IsUnopened (Err (Opening error)) [] ⊎ P images) (λ images. inl ((error, refl), refl)) known
+
+none-saved : (before rest : List Request) → [] ≡ before ++ request.Save ∷ rest → ⊥
+none-saved [] rest e = absurd cc
+none-saved (b ∷ bs) rest e = absurd cc
 
 none-handled : (left : Option (List ℕ)) → WereHandled left [] [] left
 none-handled None = tt
@@ -134,6 +139,8 @@ module _ (batch limit : ℕ) (left held : Option (List ℕ)) (known known' : Dev
         given = [];
         written = record { count = 0; is = refl };
         all = inl refl;
+        fit = inl (record { before = []; rest = []; split = refl; replied = refl; fit = tt });
+        saves = λ before rest same handled. absurd (none-saved before rest same);
         stopped = inl ((error, refl), refl, refl);
         exact = λ worked. absurd worked;
         full = λ need full. absurd cc;
@@ -270,12 +277,14 @@ module _ (batch limit : ℕ) (engine new : EngineParts) (left left' held held' :
     begun = begun-known;
     prefix = prefix-of-all engine.session.catalogue served.given (replies rules start served.requests) served.out served.prefix served.firsts;
     whole = three-parts result (IsDone rules engine.log.gate.place start served.requests served.given served.out) (IsWholeRun rules engine.log.gate.place start served.requests served.out) (λ stop. IsStoppedAt rules engine.log.gate.place start served.requests served.given stop) served.ending
-        (λ done. record { before = done.before; stops = done.stops; written = done.written ∙ ap (texts engine.session.catalogue) done.replied; fit = done.fit; saves = done.saves });
+        (λ done. record { before = done.before; stops = done.stops; written = done.written ∙ ap (texts engine.session.catalogue) done.replied; fit = done.fit });
     exit = λ text catalogue history least. exit-known text catalogue history least (all_known known) (all_known middle) (all_known known') begun-seen begins (served.keeps text (take (durable_of engine) history));
     moments = λ text catalogue history least. moments-known text catalogue history least (all_known known) (all_known middle) (all_known known') begins runs (served.keeps text (take (durable_of engine) history));
     given = served.given;
     written = served.prefix;
     all = served.whole;
+    fit = served.fit;
+    saves = served.saves;
     exact = λ worked. log-has-one rules engine.log.gate.place start served.requests new.log.gate (served.durable worked) known' (ended worked);
     full = λ need is. let last = served.full need is in (last.0, last.1, last.2, log-has-one rules engine.log.gate.place start last.0 new.log.gate last.3 known' (full need is));
     torn = λ is. let last = served.torn is in (last.0, last.1, last.2, log-has-either rules engine.log.gate.place start last.0 served.requests known' last.3);

@@ -21,7 +21,7 @@ use Rattle.pac_request.specs.declared.request.Request.TheVariants as request
 use Rattle.pac_request.specs.declared.request.Reply.{Reply}
 use Rattle.pac_session.specs.Session.{Rules, SessionState, committed, replies}
 use Rattle.pac_recover.specs.Recovering.{IsRecoveredFrom}
-use Rattle.pac_engine.specs.Closing.{GroupFits, place_after}
+use Rattle.pac_engine.specs.Closing.{GivesFitting, GroupFits, place_after}
 use Rattle.pac_engine.specs.Standing.{StandsWith, WhileAllKnown}
 use Rattle.pac_run.specs.declared.limits.TheConstants.{MAX_INPUT}
 use Rattle.pac_run.specs.declared.stop.RunStop.{RunStop}
@@ -29,7 +29,7 @@ use Rattle.pac_run.specs.declared.stop.RunStop.TheVariants.{DiskFault, InputFaul
 use Rattle.pac_run.specs.Acked.{Acknowledges, ReportsSaved}
 use Rattle.pac_run.specs.Asked.{NoSave, WereAsked, IsOverLong, StopsLast, TookAtMost, WereHandled}
 use Rattle.pac_run.specs.Opening.{AllStand}
-use Rattle.pac_run.specs.Stopping.{BeforeLast, HasWorked, StopsOpening, IsStopped, IsUnopened, SaveFits, StopsThere, closed_groups, closed_number}
+use Rattle.pac_run.specs.Stopping.{BeforeLast, HasWorked, StopsOpening, IsStopped, IsUnopened, SavesFit, StopsThere, closed_groups, closed_number}
 use Rattle.pac_run.specs.Texts.{IsTextPrefix, texts}
 
 -- ---- where the session begins
@@ -92,13 +92,12 @@ WhileAllStand R known known' = (text : List ℕ) (catalogue : CatalogueState) (h
 
 -- ---- the run
 
--- all replies were written, the last request is a stop, and each group and each checkpoint has room
+-- all replies were written, the last request is a stop, and each group has room
 pub record IsWholeRun (rules : Rules) (place : ℕ) (start : SessionState) (requests : List Request) (out : List ℕ) : Type 0 where
   pub before : List Request
   pub stops : requests ≡ before ++ request.Stop ∷ []
   pub written : out ≡ texts rules.catalogue (replies rules start requests)
   pub fit : AllByRecursion GroupFits (closed_groups rules place start requests)
-  pub saves : (first rest : List Request) → requests ≡ first ++ request.Save ∷ rest → SaveFits rules place start first
 
 -- A run, whatever its answer.
 pub record IsRun (batch limit : ℕ) (left left' held held' : Option (List ℕ)) (known known' : Devices (Option DiskHistory)) (faulted : Type 0) (result : Result (Unit {0}) RunStop) : Type 0 where
@@ -141,6 +140,9 @@ pub record IsRun (batch limit : ℕ) (left left' held held' : Option (List ℕ))
   pub given : List Reply
   pub written : IsTextPrefix out (texts rules.catalogue given)
   pub all : (out ≡ texts rules.catalogue given) ⊎ faulted
+  -- the groups whose replies these are fit the log, and the saves that were handled to their end fit a slot
+  pub fit : GivesFitting (closed_groups rules place start requests) given
+  pub saves : SavesFit rules place start requests result
   pub stopped : IfErr result (λ stop. IsStopped rules place start requests given stop)
   -- and within which request: all that was due before it was written
   pub there : IfErr result (λ stop. (StopsOpening stop × (requests ≡ [])) ⊎ StopsThere rules place start requests given out stop)
