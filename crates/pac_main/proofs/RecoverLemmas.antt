@@ -2,14 +2,15 @@
 use Rattle.std.proofs.Common.{◌≡◌, ◌≢◌, ℕ, Bool, true, false, List, [], ◌∷◌, length, Option, Some, None, Result, Ok, Err, inl, inr, refl, sym, subst, arith}
 use Rattle.std.specs.Prelude.{IsTrue}
 use Rattle.pac_ops.specs.declared.transaction.Txn.{Txn}
-use Rattle.pac_outside.specs.Devices.{OneFaulted}
+use Rattle.pac_outside.specs.Devices.{OneFaulted, each}
 use Rattle.pac_outside.specs.Disk.{DiskHistory}
+use Rattle.pac_outside.specs.Parts.{reads_of}
 use Rattle.pac_outside.specs.declared.devices.Devices.{Devices}
 use Rattle.pac_types.specs.Execution.{first_over}
 use Rattle.pac_types.specs.Typing.{CatalogueState}
 use Rattle.pac_store.specs.Images.{IfImagesKnown}
 use Rattle.pac_store.specs.Stands.{StandsFor}
-use Rattle.pac_store.proofs.ImageLemmas.{images-any, images-then}
+use Rattle.pac_store.proofs.ImageLemmas.{images-any, images-then, where-known}
 use Rattle.pac_recover.specs.declared.errors.LoadError.TheVariants as load
 use Rattle.pac_recover.specs.declared.errors.RecoverError.{RecoverError}
 use Rattle.pac_recover.specs.declared.errors.RecoverError.TheVariants as recover
@@ -18,9 +19,9 @@ use Rattle.pac_recover.specs.Recovering.{IsPrefixOverLimit, IsRecoveredFrom, IsR
 use Rattle.pac_recover.specs.Refusals.{AreRefused}
 use Rattle.pac_report.specs.Dump.{tables_text}
 use Rattle.pac_main.specs.Causes.{IsPrefixUnrecovered, IsRecovered, IsUnrecovered, RecoverStops}
-use Rattle.pac_main.specs.Recover.{IsDumpOfPrefix, IsFaultless, IsRecovery, IsRefusedStore, RecoverEnds, RecoversPrefix, StaysInLimit}
+use Rattle.pac_main.specs.Recover.{IsDumpOfPrefix, IsRecovery, IsRefusedStore, RecoverEnds, RecoversPrefix, StaysInLimit, StoredInLimit}
 use Rattle.pac_main.specs.Stop.{line_of, status_of, stop_of_recover, takes_memory}
-use Rattle.pac_main.specs.Streams.{IsOneOf, IsTaken, IsReported, Observed, ObservedDevices}
+use Rattle.pac_main.specs.Streams.{IsFaultless, IsOneOf, IsTaken, IsReported, Observed, ObservedDevices}
 use Rattle.pac_main.specs.declared.stop.Stop.{Stop}
 use Rattle.pac_main.specs.declared.stop.Stop.TheVariants.{Usage, Script as ScriptStop, NotEmpty, NoStore, Damaged, Aborted, RowsOver, InputFault, OutputFault, DiskFault, NoMemory, LogFull, TooLong, TooLarge}
 use Rattle.pac_main.proofs.StatusLemmas.{ADeviceRefusal, aborted_of, device_of, disk_of, never_done, output_of, over_of}
@@ -182,6 +183,32 @@ module _ (limit : ℕ) (devices : ObservedDevices) (sink errors : Observed) wher
       complete = λ none stays. refl;
     }
 
+  -- what is stored is within the limit
+  recovers : (known : Devices DiskHistory) (stop : Stop) → IsUnrecovered limit (record devices { before = each Some known }) sink stop → (catalogue : CatalogueState) (history : List Txn) (least : ℕ)
+      → IsPrefixUnrecovered limit catalogue history least sink stop → StoredInLimit limit (reads_of known) → IsFaultless devices sink → IsOneOf (status_of stop) (0 ∷ 9 ∷ [])
+  recovers known NoStore h catalogue history least f stays none = absurd f
+  recovers known (Damaged damage) h catalogue history least f stays none = absurd f
+  recovers known (Aborted note) h catalogue history least f stays none = absurd f
+  recovers known (RowsOver name rows most) h catalogue history least f stays none = absurd (stays name rows h.1)
+  recovers known OutputFault h catalogue history least f stays none = absurd (none.1 h.0)
+  recovers known DiskFault h catalogue history least f stays none = absurd (none.0 h)
+  recovers known NoMemory h catalogue history least f stays none = refl
+  recovers known Usage h catalogue history least f stays none = absurd h
+  recovers known (ScriptStop fault) h catalogue history least f stays none = absurd h
+  recovers known (NotEmpty device length) h catalogue history least f stays none = absurd h
+  recovers known InputFault h catalogue history least f stays none = absurd h
+  recovers known TooLong h catalogue history least f stays none = absurd h
+  recovers known (LogFull need) h catalogue history least f stays none = absurd h
+  recovers known (TooLarge bytes) h catalogue history least f stays none = absurd h
+
+  recovers_all : (stop : Stop) → RecoverStops limit devices sink stop → (text : List ℕ) (catalogue : CatalogueState) (history : List Txn) (least : ℕ)
+      → IfImagesKnown (λ images. StandsFor text catalogue history least images → StoredInLimit limit images → IsFaultless devices sink → IsOneOf (status_of stop) (0 ∷ 9 ∷ [])) devices.before
+  recovers_all stop h text catalogue history least = where-known Of (λ images. StandsFor text catalogue history least images → StoredInLimit limit images → IsFaultless devices sink → IsOneOf (status_of stop) (0 ∷ 9 ∷ []))
+      (λ known of stands. recovers known stop of.0 catalogue history least (of.1 stands)) devices.before (h.cause, h.stands text catalogue history least)
+    where
+      Of : Devices (Option DiskHistory) → Type 0
+      Of d = IsUnrecovered limit (record devices { before = d }) sink stop × IfImagesKnown (λ images. StandsFor text catalogue history least images → IsPrefixUnrecovered limit catalogue history least sink stop) d
+
   ends_reported : (stop : Stop) → RecoverStops limit devices sink stop → devices.after ≡ devices.before → IsReported errors (line_of stop) → RecoverEnds limit (status_of stop) devices sink errors
   ends_reported stop h same line = record {
     statuses = status stop h.cause;
@@ -198,6 +225,7 @@ module _ (limit : ℕ) (devices : ObservedDevices) (sink errors : Observed) wher
     output_fault = λ seven. subst (IsUnrecovered limit devices sink) (output_of stop seven) h.cause;
     disk_fault = λ eight. subst (IsUnrecovered limit devices sink) (disk_of stop eight) h.cause;
     untouched = same;
+    complete = recovers_all stop h;
     quiet = λ other. h.quiet (λ is. other (subst (λ (s : Stop). status_of s ≡ 8) (sym is) refl));
   }
 
@@ -231,6 +259,8 @@ module _ (limit : ℕ) (devices : ObservedDevices) (sink errors : Observed) wher
     output_fault = λ seven. absurd (omega (arith, seven));
     disk_fault = λ eight. absurd (omega (arith, eight));
     untouched = same;
+    complete = λ text catalogue history least.
+        images-any (λ images. StandsFor text catalogue history least images → StoredInLimit limit images → IsFaultless devices sink → IsOneOf 0 (0 ∷ 9 ∷ [])) (λ images stands stays none. refl) devices.before;
     quiet = λ other. h.quiet;
   }
 

@@ -1,6 +1,9 @@
 -- Why a run stops, and how the command ends by the stop that is reported.
-use Rattle.std.proofs.Common.{◌≡◌, ◌≢◌, ◌⊎◌, ℕ, Bool, true, false, List, [], ◌∷◌, take, Option, Some, None, Result, Ok, Err, inl, inr, refl, sym, ap, subst, ◌∙◌, arith}
-use Rattle.std.specs.Prelude.{IsTrue}
+use Rattle.std.proofs.Common.{◌≡◌, ◌≢◌, ◌⊎◌, ℕ, Bool, true, false, List, [], ◌∷◌, ◌++◌, ◌≤◌, ◌+◌, length, take, Option, Some, None, Result, Ok, Err, inl, inr, refl, sym, ap, subst, ◌∙◌, arith}
+use Rattle.std.specs.Prelude.{IsSomeAnd, IsTrue}
+use Rattle.std.specs.Io.KnownBytes.{prepend_known}
+use Rattle.std.specs.List.{AllByRecursion}
+use Rattle.std.proofs.lemmas.List.{length-append}
 use Rattle.std.proofs.Math.Seq.{take-nil}
 use Rattle.pac_ops.specs.declared.transaction.Txn.{Txn}
 use Rattle.pac_outside.specs.Devices.{OneFaulted, each}
@@ -18,22 +21,26 @@ use Rattle.pac_recover.specs.declared.errors.RecoverError.TheVariants as recover
 use Rattle.pac_recover.specs.Recovering.{IsPrefixOverLimit}
 use Rattle.pac_recover.specs.Refusals.{AreRefused}
 use Rattle.pac_recover.proofs.StandsLemmas.{is-store, no-abort, no-log-damage, no-slot-damage, over-prefix}
+use Rattle.pac_session.specs.Groups.{Group}
 use Rattle.pac_session.specs.Session.{Rules, SessionState}
+use Rattle.pac_engine.specs.Closing.{GroupFits}
 use Rattle.pac_request.specs.declared.request.Request.{Request}
 use Rattle.pac_request.specs.declared.request.Reply.{Reply}
 use Rattle.pac_run.specs.Run.{IsRun}
-use Rattle.pac_run.specs.Stopping.{DeviceFailed, IsStopped, RefusesStore}
+use Rattle.pac_run.specs.declared.limits.TheConstants.{MAX_INPUT}
+use Rattle.pac_run.specs.Stopping.{DeviceFailed, IsStopped, RefusesStore, closed_groups}
 use Rattle.pac_run.specs.Texts.{IsTextPrefix, texts}
 use Rattle.pac_run.specs.declared.stop.RunStop.{RunStop}
 use Rattle.pac_run.specs.declared.stop.RunStop.TheVariants as run
 use Rattle.pac_main.specs.Causes.{RunCause}
-use Rattle.pac_main.specs.Recover.{IsRefusedStore}
-use Rattle.pac_main.specs.Run.{LeavesStore, RunEnds, RunsOnPrefix}
+use Rattle.pac_main.specs.Recover.{IsRefusedStore, StoredInLimit}
+use Rattle.pac_main.specs.Run.{HaveRoom, LeavesStore, RunEnds, RunsOnPrefix}
 use Rattle.pac_main.specs.Stop.{line_of, status_of, stop_of_recover, stop_of_run, takes_memory}
-use Rattle.pac_main.specs.Streams.{AnyFaulted, IsOneOf, IsReported, Observed, ObservedDevices}
+use Rattle.pac_main.specs.Streams.{AnyFaulted, IsFaultless, IsOneOf, IsReported, Observed, ObservedDevices}
 use Rattle.pac_main.specs.declared.stop.Stop.{Stop}
 use Rattle.pac_main.specs.declared.stop.Stop.TheVariants as stop
 use Rattle.pac_main.proofs.IdleLemmas.{idle-run, no_memory}
+use Rattle.pac_main.proofs.InputLemmas.{some_is}
 use Rattle.pac_main.proofs.RecoverLemmas.{uncalled}
 use Rattle.pac_main.proofs.RunStatusLemmas.{RunDamage, run_aborted_of, run_disk_of, run_full_of, run_input_of, run_large_of, run_long_of, run_never_done, run_output_of, run_over_of, run_refused_of}
 use Rattle.pac_main.proofs.StopLemmas.{Reported}
@@ -224,6 +231,69 @@ module _ (group_size limit : ℕ) (source sink errors : Observed) (before after 
   abbrev Left : RunStop → Type 0
   Left why = RefusesStore why → LeavesStore source sink devices
 
+  abbrev Short : List ℕ → Type 0
+  Short text = length text ≤ MAX_INPUT
+
+  -- of these groups each fits the log
+  each_fits : (groups before rest : List Group) (group : Group) → groups ≡ before ++ group ∷ rest → AllByRecursion GroupFits groups → GroupFits group
+  each_fits groups before rest group split fit = go before (subst (λ (g : List Group). AllByRecursion GroupFits g) split fit)
+    where
+      go : (before : List Group) → AllByRecursion GroupFits (before ++ group ∷ rest) → GroupFits group
+      go [] fit = fit.0
+      go (one ∷ more) fit = go more fit.1
+
+  -- an input that isn't too long doesn't stop the run
+  not_long : (left' : Option (List ℕ)) (text taken : List ℕ) → length text ≤ MAX_INPUT → length taken ≡ MAX_INPUT + 1 → Some text ≡ prepend_known taken left' → ⊥
+  not_long None text taken short more gave = absurd cc
+  not_long (Some rest) text taken short more gave = let is : text ≡ taken ++ rest = cc in omega (arith, short, more, ap (λ (l : List ℕ). length l) is, length-append taken rest)
+
+  module _ (text : List ℕ) (catalogue : CatalogueState) (history : List Txn) (least : ℕ) (known : Devices DiskHistory) where
+    -- nothing stops the run but running out of memory
+    runs_on : (why : RunStop) → RunCause limit source sink (record devices { before = each Some known }) why → IsPrefixStop limit catalogue history least why → (ran : Ran (Err why)) → StoredInLimit limit (reads_of known) → IsFaultless devices sink → (AnyFaulted source → ⊥)
+        → HaveRoom ran.rules ran.place ran.start ran.requests → IsSomeAnd source.before Short → IsOneOf (status_of (stop_of_run why)) (0 ∷ 9 ∷ [])
+    runs_on (run.Opening (recover.Load load.NoStore)) h f ran stays none reads room short = absurd f
+    runs_on (run.Opening (recover.Load (load.Damaged damage))) h f ran stays none reads room short = absurd f
+    runs_on (run.Opening (recover.Load load.DiskFault)) h f ran stays none reads room short = absurd (none.0 (h.1 refl))
+    runs_on (run.Opening (recover.Load load.NoMemory)) h f ran stays none reads room short = refl
+    runs_on (run.Opening (recover.AbortInLog note)) h f ran stays none reads room short = absurd f
+    runs_on (run.Opening (recover.RowsOver name rows most)) h f ran stays none reads room short = absurd (stays name rows h.0.1)
+    runs_on run.InputFault h f ran stays none reads room short = absurd (reads h)
+    runs_on run.OutputFault h f ran stays none reads room short = absurd (none.1 h)
+    runs_on run.DiskFault h f ran stays none reads room short = absurd (none.0 h)
+    runs_on run.NoMemory h f ran stays none reads room short = refl
+    runs_on (run.LogFull need) h f ran stays none reads room short = absurd (no_room ran.stopped)
+      where
+        no_room : IsStopped ran.rules ran.place ran.start ran.requests ran.given (run.LogFull need) → ⊥
+        no_room (inl opening) = let no : run.LogFull need ≡ run.Opening opening.0.0 = opening.0.1 in absurd cc
+        no_room (inr at) = let fits = each_fits (closed_groups ran.rules ran.place ran.start ran.requests) at.before at.rest at.group at.split room.log at.here.some in omega (arith, fits, at.here.over)
+    runs_on run.TooLong h f ran stays none reads room short =
+        let given = some_is Short source.before short in
+        let long = ran.long refl in
+        absurd (not_long source.after given.0 long.bytes given.2 long.more (sym given.1 ∙ long.gave))
+    runs_on (run.TooLarge bytes) h f ran stays none reads room short = absurd (no_room ran.stopped)
+      where
+        no_room : IsStopped ran.rules ran.place ran.start ran.requests ran.given (run.TooLarge bytes) → ⊥
+        no_room (inl opening) = let no : run.TooLarge bytes ≡ run.Opening opening.0.0 = opening.0.1 in absurd cc
+        no_room (inr at) = room.slots bytes ran.given at
+
+  runs_all : (why : RunStop) → Cause why → (ran : Ran (Err why)) → (text : List ℕ) (catalogue : CatalogueState) (history : List Txn) (least : ℕ)
+      → IfImagesKnown (λ images. StandsFor text catalogue history least images → StoredInLimit limit images → IsFaultless devices sink → (AnyFaulted source → ⊥)
+      → HaveRoom ran.rules ran.place ran.start ran.requests → IsSomeAnd source.before Short → IsOneOf (status_of (stop_of_run why)) (0 ∷ 9 ∷ [])) before
+  runs_all why h ran text catalogue history least = where-known Of (λ images. StandsFor text catalogue history least images → StoredInLimit limit images → IsFaultless devices sink → (AnyFaulted source → ⊥)
+      → HaveRoom ran.rules ran.place ran.start ran.requests → IsSomeAnd source.before Short → IsOneOf (status_of (stop_of_run why)) (0 ∷ 9 ∷ []))
+      (λ known of stands. runs_on text catalogue history least known why of.0 (of.1 stands) ran) before (h, run-prefix limit source sink after was is text catalogue history least before why h)
+    where
+      Of : Devices (Option DiskHistory) → Type 0
+      Of d = RunCause limit source sink (record devices { before = d }) why × IfImagesKnown (λ images. StandsFor text catalogue history least images → IsPrefixStop limit catalogue history least why) d
+
+  -- the status is one of those
+  ends_well : (n : ℕ) (rules : Rules) (place : ℕ) (start : SessionState) (requests : List Request) → IsOneOf n (0 ∷ 9 ∷ []) → (text : List ℕ) (catalogue : CatalogueState) (history : List Txn) (least : ℕ)
+      → IfImagesKnown (λ images. StandsFor text catalogue history least images → StoredInLimit limit images → IsFaultless devices sink → (AnyFaulted source → ⊥)
+      → HaveRoom rules place start requests → IsSomeAnd source.before Short → IsOneOf n (0 ∷ 9 ∷ [])) before
+  ends_well n rules place start requests one text catalogue history least =
+      images-any (λ images. StandsFor text catalogue history least images → StoredInLimit limit images → IsFaultless devices sink → (AnyFaulted source → ⊥) → HaveRoom rules place start requests → IsSomeAnd source.before Short → IsOneOf n (0 ∷ 9 ∷ []))
+      (λ images stands stays none reads room short. one) before
+
   itself : (why : RunStop) → Ran (Err why) → Cause why → LineReported why → Left why → Quiet why → RunEnds group_size limit (status_of (stop_of_run why)) source sink errors devices
   itself why ran h line left quiet = record {
     statuses = run_status why;
@@ -248,6 +318,7 @@ module _ (group_size limit : ℕ) (source sink errors : Observed) (before after 
     too_large = λ twelve. let t = run_large_of why twelve in (t.bytes, end_is why (run.TooLarge t.bytes) t.is, subst LineReported t.is line);
     untouched = λ early. left (refuses_of why early);
     quiet = λ eight. quiet (λ e. eight (disk_status why e));
+    complete = runs_all why h ran;
   }
 
   -- running out of memory has no cause
@@ -272,6 +343,7 @@ module _ (group_size limit : ℕ) (source sink errors : Observed) (before after 
     too_large = λ e. absurd (omega (arith, nine, e));
     untouched = λ early. let no : ◌≡◌ {A = Bool} false true = subst (λ (m : ℕ). IsOneOf m (3 ∷ 4 ∷ 5 ∷ [])) nine early in absurd cc;
     quiet = λ eight. quiet;
+    complete = ends_well n ran.rules ran.place ran.start ran.requests (subst (λ (m : ℕ). IsOneOf m (0 ∷ 9 ∷ [])) (sym nine) refl);
   }
 
   pub run-ends : (why : RunStop) (reported : Stop) (n : ℕ) → n ≡ status_of reported → Reported (stop_of_run why) reported → Ran (Err why) → Cause why → IsReported errors (line_of reported) → Left why → Quiet why → RunEnds group_size limit n source sink errors devices
@@ -300,6 +372,7 @@ module _ (group_size limit : ℕ) (source sink errors : Observed) (before after 
     too_large = λ e. absurd (omega (arith, e));
     untouched = λ early. let no : ◌≡◌ {A = Bool} false true = early in absurd cc;
     quiet = λ eight. quiet;
+    complete = ends_well 0 ran.rules ran.place ran.start ran.requests refl;
   }
 
 -- ---- running out of memory for the arguments: no stream and no device is called
