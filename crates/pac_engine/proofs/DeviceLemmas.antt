@@ -1,19 +1,16 @@
--- Calls of one of a store's three devices, while the two others stand still.
-use Rattle.std.proofs.Common.{◌≡◌, ℕ, List, Option, Some, None, subst}
+-- Calls of one of a store's devices, while the others stand still.
+use Rattle.std.proofs.Common.{◌≡◌, ℕ, List, Option, Some, None, sym, subst}
 use Rattle.pac_outside.specs.Disk.{DiskState, DiskHistory, IsImage, BothKnown}
 use Rattle.pac_outside.specs.declared.devices.Devices.{Devices}
-use Rattle.pac_outside.specs.Devices.{AllLeave}
+use Rattle.pac_outside.specs.Devices.{WhichDevice, all_known, device_at, each, with_device}
 use Rattle.pac_outside.specs.GateByte.{OneImage}
 use Rattle.pac_outside.proofs.Images.{one_image}
-use Rattle.pac_outside.proofs.Runs.{three}
-use Rattle.pac_store.specs.Images.{Images}
+use Rattle.pac_store.proofs.CallLemmas.{known-at, put-known, put-unknown}
+use Rattle.pac_store.proofs.ImageLemmas.{by-known}
 use Rattle.pac_engine.specs.Standing.{WhileKnown, WhileAllKnown}
 
 pub image-of : (P : List ℕ → Type 0) (state : DiskState) → OneImage P state → (image : List ℕ) → IsImage state image → image ≡ state.seen
 image-of P state one image is = one_image state.seen image (subst (λ (s : DiskState). IsImage s image) one.one is)
-
-pub of-three : (P : Images → Type 0) (l a b : DiskHistory) → ((i x y : List ℕ) → IsImage l.now i → IsImage a.now x → IsImage b.now y → P (three i x y)) → AllLeave P (three l a b)
-of-three P l a b has = λ images are. has images.log images.slot_a images.slot_b are.log are.slot_a are.slot_b
 
 -- ---- where the devices' histories are known
 
@@ -23,30 +20,21 @@ module _ (P : Devices DiskHistory → Type 0) (R : Devices DiskHistory → Devic
   rest-known step None = tt
   rest-known step (Some devices) = λ is. step devices is
 
-  module _ (S : DiskHistory → DiskHistory → Type 0) where
-    pub log-known : ((l n a b : DiskHistory) → P (three l a b) → S l n → R (three l a b) (three n a b)) → (l n a b : Option DiskHistory)
-        → ((u v w : DiskHistory) → P (three u v w) → BothKnown S l n) → WhileAllKnown P R (three l a b) (three n a b)
-    log-known step None n a b both = tt
-    log-known step (Some l) n None b both = tt
-    log-known step (Some l) n (Some a) None both = tt
-    log-known step (Some l) None (Some a) (Some b) both = λ is. both l a b is
-    log-known step (Some l) (Some n) (Some a) (Some b) both = λ is. step l n a b is (both l a b is)
+  -- one device is, while the others stand still
+  module _ (S : DiskHistory → DiskHistory → Type 0) (which : WhichDevice) (step : (devices : Devices DiskHistory) (new : DiskHistory) → P devices → S (device_at which devices) new → R devices (with_device which new devices)) where
+    abbrev Known : Option DiskHistory → Devices (Option DiskHistory) → Type 0
+    Known now d = ((known : Devices DiskHistory) → P known → BothKnown S (device_at which d) now) → WhileAllKnown P R d (with_device which now d)
 
-    pub a-known : ((l a n b : DiskHistory) → P (three l a b) → S a n → R (three l a b) (three l n b)) → (l a n b : Option DiskHistory)
-        → ((u v w : DiskHistory) → P (three u v w) → BothKnown S a n) → WhileAllKnown P R (three l a b) (three l n b)
-    a-known step None a n b both = tt
-    a-known step (Some l) None n b both = tt
-    a-known step (Some l) (Some a) n None both = tt
-    a-known step (Some l) (Some a) None (Some b) both = λ is. both l a b is
-    a-known step (Some l) (Some a) (Some n) (Some b) both = λ is. step l a n b is (both l a b is)
+    of-known : (now : Option DiskHistory) (known : Devices DiskHistory) → Known now (each Some known)
+    of-known None known both =
+        subst (λ (all : Option (Devices DiskHistory)). WhileKnown P R (Some known) all) (sym (put-unknown which known)) (λ is. subst (λ (d : Option DiskHistory). BothKnown S d None) (known-at which known) (both known is))
+    of-known (Some new) known both =
+        subst (λ (d : Devices (Option DiskHistory)). WhileKnown P R (Some known) (all_known d)) (sym (put-known which known new))
+        (λ is. step known new is (subst (λ (d : Option DiskHistory). BothKnown S d (Some new)) (known-at which known) (both known is)))
 
-    pub b-known : ((l a b n : DiskHistory) → P (three l a b) → S b n → R (three l a b) (three l a n)) → (l a b n : Option DiskHistory)
-        → ((u v w : DiskHistory) → P (three u v w) → BothKnown S b n) → WhileAllKnown P R (three l a b) (three l a n)
-    b-known step None a b n both = tt
-    b-known step (Some l) None b n both = tt
-    b-known step (Some l) (Some a) None n both = tt
-    b-known step (Some l) (Some a) (Some b) None both = λ is. both l a b is
-    b-known step (Some l) (Some a) (Some b) (Some n) both = λ is. step l a b n is (both l a b is)
+    pub one-known : (devices : Devices (Option DiskHistory)) (now : Option DiskHistory) → ((known : Devices DiskHistory) → P known → BothKnown S (device_at which devices) now) → WhileAllKnown P R devices (with_device which now devices)
+    one-known devices now = by-known (Known now) devices
+        (λ unknown both. subst (λ (all : Option (Devices DiskHistory)). WhileKnown P R all (all_known (with_device which now devices))) (sym unknown) tt) (of-known now)
 
 -- one part of a step after another
 pub known-then : (P Q : Devices DiskHistory → Type 0) (R S T : Devices DiskHistory → Devices DiskHistory → Type 0) → ((u v w : Devices DiskHistory) → P u → R u v → Q v → S v w → T u w) → (x y z : Option (Devices DiskHistory))

@@ -149,15 +149,15 @@ module _ (rules : Rules) (place : ℕ) (start : SessionState) (closed : List (Li
       → StopsAt rules place start closed given cause
   close-stops DiskFault given none known on full called =
       inl (record { before = []; group = the_group rules place start one; rest = []; split = one-described; replied = none; fit = tt; here = subst (λ (l : List Txn). IsCalledFor place l) body (called refl) })
-  close-stops NoMemory given none known on full called = inl (record { before = []; rest = described rules place start closed; split = refl; replied = none })
+  close-stops NoMemory given none known on full called = inl (record { before = []; rest = described rules place start closed; split = refl; replied = none; fit = tt })
   close-stops (TooLarge bytes) given none known on full called = absurd (known bytes refl)
   close-stops Ended given none known on full called = absurd (on refl)
   close-stops (LogFull need) given none known on full called =
       record { before = []; group = the_group rules place start one; rest = []; split = one-described; replied = none; fit = tt; here = subst (λ (l : List Txn). IsOverFull place l need) body (full need refl) }
 
   -- its replies were
-  pub closed-stops : (given : List Reply) → given ≡ replies rules start one → StopsAt rules place start closed given NoMemory
-  closed-stops given gave = inl (record { before = described rules place start closed; rest = []; split = sym (append-nil (described rules place start closed)); replied = gave ∙ sym (append-nil (replies rules start one)) ∙ sym (ap (λ (g : List Group). all_replies g) one-described) })
+  pub closed-stops : (given : List Reply) → given ≡ replies rules start one → HasRoomAt place txns → StopsAt rules place start closed given NoMemory
+  closed-stops given gave room = inl (record { before = described rules place start closed; rest = []; split = sym (append-nil (described rules place start closed)); replied = gave ∙ sym (append-nil (replies rules start one)) ∙ sym (ap (λ (g : List Group). all_replies g) one-described); fit = subst (λ (g : List Group). AllByRecursion GroupFits g) (sym one-described) (subst (λ (l : List Txn). HasRoomAt place l) body room, tt) })
 
 -- ---- a save
 

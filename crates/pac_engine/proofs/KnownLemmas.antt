@@ -3,7 +3,8 @@ use Rattle.std.proofs.Common.{◌≡◌, ℕ, List, [], ◌++◌, length, Option
 use Rattle.std.proofs.lemmas.List.{append-nil}
 use Rattle.pac_ops.specs.declared.transaction.Txn.{Txn}
 use Rattle.pac_outside.specs.Disk.{DiskHistory, LeavesOnly, BothKnown}
-use Rattle.pac_outside.specs.Devices.{RunLeaves}
+use Rattle.pac_outside.specs.Devices.{RunLeaves, with_device}
+use Rattle.pac_outside.specs.Devices.WhichDevice.{the_log, the_slot_a, the_slot_b}
 use Rattle.pac_outside.specs.Devices.RunLeaves.{rests}
 use Rattle.pac_outside.specs.GateByte.{OneImage}
 use Rattle.pac_outside.proofs.Histories.{both_and}
@@ -24,8 +25,8 @@ use Rattle.pac_check.specs.SlotStates.{HoldsRows, by_slot, spare_of}
 use Rattle.pac_engine.specs.declared.parts.EngineParts.{EngineParts}
 use Rattle.pac_engine.specs.Committing.{HasAdded, MayAdd, gate_past, with_batch}
 use Rattle.pac_engine.specs.Moves.{committed_parts, saved_parts}
-use Rattle.pac_engine.specs.Standing.{EngineStands, KeepsHistory, MayLeave, StandsOn, WhileKnown, WhileAllKnown, durable_of, saved_of}
-use Rattle.pac_engine.proofs.DeviceLemmas.{log-known, a-known, b-known, rest-known}
+use Rattle.pac_engine.specs.Standing.{KeepsHistory, MayLeave, StandsOn, WhileKnown, WhileAllKnown, durable_of, saved_of}
+use Rattle.pac_engine.proofs.DeviceLemmas.{one-known, rest-known}
 use Rattle.pac_engine.proofs.StandingLemmas.{commit-fails, commit-keeps, commit-stands, leave-same, stands-now}
 use Rattle.pac_engine.proofs.SavingLemmas.{has-byte, save-a-run, save-a-stands, save-b-run, save-b-stands}
 
@@ -51,9 +52,9 @@ module _ (text : List ℕ) (history : List Txn) (e : EngineParts) (same : e.log.
     MayAll x y = (t : List ℕ) (bs : List (List Txn)) → IsAfter t bs e.log.gate → MayAdd t e.log.gate.catalogue bs txns x y
 
     pub closed-fails : (now : EngineParts) → durable_of now ≡ durable_of e → saved_of now ≡ saved_of e → WhileAllKnown (StandsOn text history e) (KeepsHistory text (history ++ []) e now) (three l a b) (three n a b)
-    closed-fails now durable saved = log-known (StandsOn text history e) (KeepsHistory text (history ++ []) e now) MayAll
-        (λ x y u v is all. subst (λ (h : List Txn). KeepsHistory text h e now (three x u v) (three y u v)) (sym (append-nil history)) (commit-fails text history e x u v is y (may-here is.batches x y (all text is.batches is.after)) now durable saved))
-        l n a b (λ u v w is. all-report (λ t bs x y. MayAdd t e.log.gate.catalogue bs txns x y) e.log.gate l n may text is.batches is.after)
+    closed-fails now durable saved = one-known (StandsOn text history e) (KeepsHistory text (history ++ []) e now) MayAll the_log
+        (λ d y is all. subst (λ (h : List Txn). KeepsHistory text h e now d (with_device the_log y d)) (sym (append-nil history)) (commit-fails text history e d.log d.slot_a d.slot_b is y (may-here is.batches d.log y (all text is.batches is.after)) now durable saved))
+        (three l a b) n (λ d is. all-report (λ t bs x y. MayAdd t e.log.gate.catalogue bs txns x y) e.log.gate l n may text is.batches is.after)
 
     module _ (added : (t : List ℕ) (bs : List (List Txn)) → IsAfter t bs e.log.gate → BothKnown (HasAdded t e.log.gate.catalogue bs txns) l n)
         (gate : NextGate) (after : (t : List ℕ) (bs : List (List Txn)) → IsAfter t bs e.log.gate → IsAfter t (with_batch bs txns) gate) (gate_is : gate ≡ gate_past txns e.log.gate) (now : EngineParts) (becomes : now ≡ committed_parts e) where
@@ -63,27 +64,27 @@ module _ (text : List ℕ) (history : List Txn) (e : EngineParts) (same : e.log.
       after-here : (batches : List (List Txn)) → IsAfter text batches e.log.gate → IsAfter text (with_batch batches e.session.txns) (gate_past e.session.txns e.log.gate)
       after-here batches is = subst (λ (t : List Txn). IsAfter text (with_batch batches t) (gate_past t e.log.gate)) txns_is (subst (λ (g : NextGate). IsAfter text (with_batch batches txns) g) gate_is (after text batches is))
 
-      both-report : (u v w : DiskHistory) → StandsOn text history e (three u v w) → BothKnown AddsAll l n
-      both-report u v w is = all-report (λ t bs x y. MayAdd t e.log.gate.catalogue bs txns x y × HasAdded t e.log.gate.catalogue bs txns x y) e.log.gate l n
+      both-report : (d : Devices DiskHistory) → StandsOn text history e d → BothKnown AddsAll l n
+      both-report d is = all-report (λ t bs x y. MayAdd t e.log.gate.catalogue bs txns x y × HasAdded t e.log.gate.catalogue bs txns x y) e.log.gate l n
           (λ t bs b. both_and (MayAdd t e.log.gate.catalogue bs txns) (HasAdded t e.log.gate.catalogue bs txns) l n (may t bs b) (added t bs b)) text is.batches is.after
 
       pub closed-keeps : WhileAllKnown (StandsOn text history e) (KeepsHistory text (history ++ []) e now) (three l a b) (three n a b)
-      closed-keeps = log-known (StandsOn text history e) (KeepsHistory text (history ++ []) e now) AddsAll
-          (λ x y u v is all.
+      closed-keeps = one-known (StandsOn text history e) (KeepsHistory text (history ++ []) e now) AddsAll the_log
+          (λ d y is all.
           let facts = all text is.batches is.after in
-          subst (λ (p : EngineParts). KeepsHistory text (history ++ []) e p (three x u v) (three y u v)) (sym becomes)
-          (subst (λ (h : List Txn). KeepsHistory text h e (committed_parts e) (three x u v) (three y u v)) (sym (append-nil history))
-          (commit-keeps text history e x u v is y (may-here is.batches x y facts.0) (added-here is.batches x y facts.1) (after-here is.batches is.after))))
-          l n a b both-report
+          subst (λ (p : EngineParts). KeepsHistory text (history ++ []) e p d (with_device the_log y d)) (sym becomes)
+          (subst (λ (h : List Txn). KeepsHistory text h e (committed_parts e) d (with_device the_log y d)) (sym (append-nil history))
+          (commit-keeps text history e d.log d.slot_a d.slot_b is y (may-here is.batches d.log y facts.0) (added-here is.batches d.log y facts.1) (after-here is.batches is.after))))
+          (three l a b) n both-report
 
       pub closed-stands : WhileAllKnown (StandsOn text history e) (λ was is. StandsOn text (history ++ []) now is) (three l a b) (three n a b)
-      closed-stands = log-known (StandsOn text history e) (λ was is. StandsOn text (history ++ []) now is) AddsAll
-          (λ x y u v is all.
+      closed-stands = one-known (StandsOn text history e) (λ was is. StandsOn text (history ++ []) now is) AddsAll the_log
+          (λ d y is all.
           let facts = all text is.batches is.after in
-          subst (λ (p : EngineParts). EngineStands text (history ++ []) p y u v) (sym becomes)
-          (subst (λ (h : List Txn). EngineStands text h (committed_parts e) y u v) (sym (append-nil history))
-          (commit-stands text history e x u v is y (may-here is.batches x y facts.0) (added-here is.batches x y facts.1) (after-here is.batches is.after))))
-          l n a b both-report
+          subst (λ (p : EngineParts). StandsOn text (history ++ []) p (with_device the_log y d)) (sym becomes)
+          (subst (λ (h : List Txn). StandsOn text h (committed_parts e) (with_device the_log y d)) (sym (append-nil history))
+          (commit-stands text history e d.log d.slot_a d.slot_b is y (may-here is.batches d.log y facts.0) (added-here is.batches d.log y facts.1) (after-here is.batches is.after))))
+          (three l a b) n both-report
 
 -- ---- a checkpoint
 
@@ -114,16 +115,16 @@ module _ (text : List ℕ) (history : List Txn) (e : EngineParts) (none : e.sess
   abbrev Form : Type 0
   Form = IsCheckpoint e.session.catalogue.tables (checkpoint_of (length e.session.catalogue.tables) (head_with e.log.gate.txns e.log.gate.place) e.session.tables)
 
-  byte-a : (u v w : DiskHistory) → StandsOn text history e (three u v w) → HasByte e.slots.a
-  byte-a u v w is = has-byte text e.session.catalogue is.batches e.slots.a v.now.seen is.slot_a.has is.known_a
+  byte-a : (d : Devices DiskHistory) → StandsOn text history e d → HasByte e.slots.a
+  byte-a d is = has-byte text e.session.catalogue is.batches e.slots.a d.slot_a.now.seen is.slot_a.has is.known_a
 
-  byte-b : (u v w : DiskHistory) → StandsOn text history e (three u v w) → HasByte e.slots.b
-  byte-b u v w is = has-byte text e.session.catalogue is.batches e.slots.b w.now.seen is.slot_b.has is.known_b
+  byte-b : (d : Devices DiskHistory) → StandsOn text history e d → HasByte e.slots.b
+  byte-b d is = has-byte text e.session.catalogue is.batches e.slots.b d.slot_b.now.seen is.slot_b.has is.known_b
 
   -- a relation between what is known, slot by slot
   by-slot : (R : Devices DiskHistory → Devices DiskHistory → Type 0) (S : DiskHistory → DiskHistory → Type 0)
-      → (spare_of e.slots ≡ A → (x u n v : DiskHistory) → StandsOn text history e (three x u v) → S u n → R (three x u v) (three x n v))
-      → (spare_of e.slots ≡ B → (x u v n : DiskHistory) → StandsOn text history e (three x u v) → S v n → R (three x u v) (three x u n))
+      → (spare_of e.slots ≡ A → (d : Devices DiskHistory) (n : DiskHistory) → StandsOn text history e d → S d.slot_a n → R d (with_device the_slot_a n d))
+      → (spare_of e.slots ≡ B → (d : Devices DiskHistory) (n : DiskHistory) → StandsOn text history e d → S d.slot_b n → R d (with_device the_slot_b n d))
       → (HasByte (by_slot (spare_of e.slots) e.slots.a e.slots.b) → BothKnown S (by_slot (spare_of e.slots) a b) (by_slot (spare_of e.slots) a' b'))
       → WhileAllKnown (StandsOn text history e) R (three l a b) (three l a' b')
   by-slot R S in_a in_b both = go (spare_of e.slots) refl both other
@@ -131,14 +132,14 @@ module _ (text : List ℕ) (history : List Txn) (e : EngineParts) (none : e.sess
       go : (spare : SlotName) → spare_of e.slots ≡ spare → (HasByte (by_slot spare e.slots.a e.slots.b) → BothKnown S (by_slot spare a b) (by_slot spare a' b')) → by_slot spare b' a' ≡ by_slot spare b a
           → WhileAllKnown (StandsOn text history e) R (three l a b) (three l a' b')
       go A is known rest = subst (λ (y : Option DiskHistory). WhileAllKnown (StandsOn text history e) R (three l a b) (three l a' y)) (sym rest)
-          (a-known (StandsOn text history e) R S (in_a is) l a a' b (λ u v w s. known (byte-a u v w s)))
+          (one-known (StandsOn text history e) R S the_slot_a (in_a is) (three l a b) a' (λ d s. known (byte-a d s)))
       go B is known rest = subst (λ (x : Option DiskHistory). WhileAllKnown (StandsOn text history e) R (three l a b) (three l x b')) (sym rest)
-          (b-known (StandsOn text history e) R S (in_b is) l a b b' (λ u v w s. known (byte-b u v w s)))
+          (one-known (StandsOn text history e) R S the_slot_b (in_b is) (three l a b) b' (λ d s. known (byte-b d s)))
 
   pub unsaved-keeps : Form → (now : EngineParts) → durable_of now ≡ durable_of e → saved_of now ≡ saved_of e → WhileAllKnown (StandsOn text history e) (KeepsHistory text (history ++ []) e now) (three l a b) (three l a' b')
   unsaved-keeps form now durable saved = by-slot (KeepsHistory text (history ++ []) e now) (Replacing e)
-      (λ spare x u n v is run. of (three x u v) (three x n v) (save-a-run text history e x u v is none fit form spare n run))
-      (λ spare x u v n is run. of (three x u v) (three x u n) (save-b-run text history e x u v is none fit form spare n run)) any
+      (λ spare d n is run. of d (with_device the_slot_a n d) (save-a-run text history e d.log d.slot_a d.slot_b is none fit form spare n run))
+      (λ spare d n is run. of d (with_device the_slot_b n d) (save-b-run text history e d.log d.slot_a d.slot_b is none fit form spare n run)) any
     where
       of : (old new : Devices DiskHistory) → RunLeaves (MayLeave text e.session.catalogue history e) old new → KeepsHistory text (history ++ []) e now old new
       of old new run = subst (λ (h : List Txn). KeepsHistory text h e now old new) (sym (append-nil history))
@@ -151,18 +152,18 @@ module _ (text : List ℕ) (history : List Txn) (e : EngineParts) (none : e.sess
     saves : HasByte (by_slot (spare_of e.slots) e.slots.a e.slots.b) → BothKnown Saves (by_slot (spare_of e.slots) a b) (by_slot (spare_of e.slots) a' b')
     saves byte = both_and (Replacing e) (NewIn e) (by_slot (spare_of e.slots) a b) (by_slot (spare_of e.slots) a' b') (any byte) done
 
-    stands-a : spare_of e.slots ≡ A → (x u n v : DiskHistory) → EngineStands text history e x u v → Saves u n → EngineStands text history (saved_parts e) x n v
-    stands-a spare x u n v is run = subst (λ (p : EngineParts). EngineStands text history p x n v) (saved-a e spare) (save-a-stands text history e x u v is none fit n run.1)
+    stands-a : spare_of e.slots ≡ A → (d : Devices DiskHistory) (n : DiskHistory) → StandsOn text history e d → Saves d.slot_a n → StandsOn text history (saved_parts e) (with_device the_slot_a n d)
+    stands-a spare d n is run = subst (λ (p : EngineParts). StandsOn text history p (with_device the_slot_a n d)) (saved-a e spare) (save-a-stands text history e d.log d.slot_a d.slot_b is none fit n run.1)
 
-    stands-b : spare_of e.slots ≡ B → (x u v n : DiskHistory) → EngineStands text history e x u v → Saves v n → EngineStands text history (saved_parts e) x u n
-    stands-b spare x u v n is run = subst (λ (p : EngineParts). EngineStands text history p x u n) (saved-b e spare) (save-b-stands text history e x u v is none fit n run.1)
+    stands-b : spare_of e.slots ≡ B → (d : Devices DiskHistory) (n : DiskHistory) → StandsOn text history e d → Saves d.slot_b n → StandsOn text history (saved_parts e) (with_device the_slot_b n d)
+    stands-b spare d n is run = subst (λ (p : EngineParts). StandsOn text history p (with_device the_slot_b n d)) (saved-b e spare) (save-b-stands text history e d.log d.slot_a d.slot_b is none fit n run.1)
 
     pub saved-keeps : WhileAllKnown (StandsOn text history e) (KeepsHistory text (history ++ []) e now) (three l a b) (three l a' b')
     saved-keeps = subst (λ (p : EngineParts). WhileAllKnown (StandsOn text history e) (KeepsHistory text (history ++ []) e p) (three l a b) (three l a' b')) (sym becomes)
         (subst (λ (h : List Txn). WhileAllKnown (StandsOn text history e) (KeepsHistory text h e (saved_parts e)) (three l a b) (three l a' b')) (sym (append-nil history))
         (by-slot (KeepsHistory text history e (saved_parts e)) Saves
-        (λ spare x u n v is run. record { moments = save-a-run text history e x u v is none fit run.1.has.form spare n run.0; end = stands-now text history (saved_parts e) x n v (stands-a spare x u n v is run) })
-        (λ spare x u v n is run. record { moments = save-b-run text history e x u v is none fit run.1.has.form spare n run.0; end = stands-now text history (saved_parts e) x u n (stands-b spare x u v n is run) }) saves))
+        (λ spare d n is run. record { moments = save-a-run text history e d.log d.slot_a d.slot_b is none fit run.1.has.form spare n run.0; end = stands-now text history (saved_parts e) d.log n d.slot_b (stands-a spare d n is run) })
+        (λ spare d n is run. record { moments = save-b-run text history e d.log d.slot_a d.slot_b is none fit run.1.has.form spare n run.0; end = stands-now text history (saved_parts e) d.log d.slot_a n (stands-b spare d n is run) }) saves))
 
     pub saved-stands : WhileAllKnown (StandsOn text history e) (λ was is. StandsOn text (history ++ []) now is) (three l a b) (three l a' b')
     saved-stands = subst (λ (p : EngineParts). WhileAllKnown (StandsOn text history e) (λ was is. StandsOn text (history ++ []) p is) (three l a b) (three l a' b')) (sym becomes)

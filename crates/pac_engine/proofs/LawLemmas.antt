@@ -126,6 +126,7 @@ module _ (rules : Rules) (place : ℕ) (start : SessionState) (whole : GroupCut)
       rest = up.rest;
       split = all-groups more ∙ ap (λ (g : List Group). groups ++ g) up.split ∙ sym (append_assoc groups up.before up.rest);
       replied = known-all up.before up.replied;
+      fit = fit-both groups up.before is.fit up.fit;
     }
 
     unsaved-then : IsUnsaved after known → IsUnsaved all (given ++ known)

@@ -6,7 +6,8 @@ use Rattle.std.proofs.lemmas.List.{append-nil, take_all}
 use Rattle.pac_ops.specs.declared.transaction.Txn.{Txn}
 use Rattle.pac_outside.specs.Disk.{DiskHistory, IsImage, LeavesOnly}
 use Rattle.pac_outside.specs.Devices.{RunLeaves}
-use Rattle.pac_outside.proofs.Runs.{three, a_runs, b_runs}
+use Rattle.pac_outside.specs.Devices.WhichDevice.{the_slot_a, the_slot_b}
+use Rattle.pac_outside.proofs.Runs.{three}
 use Rattle.pac_outside.specs.GateByte.{OneImage}
 use Rattle.pac_outside.proofs.Histories.{weaken}
 use Rattle.pac_types.specs.declared.table.Table.{Table}
@@ -27,6 +28,7 @@ use Rattle.pac_check.specs.SlotStates.{HoldsRows, IsSlot, by_slot, info_of, newe
 use Rattle.pac_check.proofs.SlotLemmas.{begins, read_held}
 use Rattle.pac_store.specs.Images.{Images}
 use Rattle.pac_store.specs.Stands.{EndsWith, HoldsSaved, IsShutOrPrefix}
+use Rattle.pac_store.proofs.CallLemmas.{device-runs}
 use Rattle.pac_store.proofs.StandsLemmas.{newest-one}
 use Rattle.pac_engine.specs.declared.parts.EngineParts.{EngineParts}
 use Rattle.pac_engine.specs.Moves.{saved_parts}
@@ -127,10 +129,9 @@ module _ (text : List ℕ) (history : List Txn) (e : EngineParts) (l a b : DiskH
     replaced old image was which = ⊎_elim (λ same. subst (λ (i : List ℕ). IsShutOrPrefix text e.session.catalogue is.batches i) (sym same) was) (λ other. ⊎_elim (λ shut. inl shut) (λ opens. new-prefix image (record { form = form; opens = opens })) other) which
 
     pub save-a-run : spare_of e.slots ≡ A → (n : DiskHistory) → LeavesOnly (IsOldShutOrNew a.now.seen bytes) a n → RunLeaves (MayLeave text e.session.catalogue history e) (three l a b) (three l n b)
-    save-a-run spare n run = a_runs Left l a n b
-        (weaken (IsOldShutOrNew a.now.seen bytes) (λ x. (i y : List ℕ) → IsImage l.now i → IsImage b.now y → Left (three i x y)) a n
-        (λ x which i y is_i is_y. subst (λ (v : List ℕ). Left (three i x v)) (sym (image-of _ b.now is.slot_b y is_y)) (subst (λ (t : List ℕ). Left (three t x b.now.seen)) (sym (image-of _ l.now is.log i is_i))
-        (stays x b.now.seen (replaced a.now.seen x is.slot_a.has which) is.slot_b.has (saves x)))) run)
+    save-a-run spare n run = device-runs Left the_slot_a (three l a b) n (IsOldShutOrNew a.now.seen bytes)
+        (λ state leaves images are. subst (λ (y : List ℕ). Left (three images.log images.slot_a y)) (sym (image-of _ b.now is.slot_b images.slot_b are.slot_b)) (subst (λ (i : List ℕ). Left (three i images.slot_a b.now.seen)) (sym (image-of _ l.now is.log images.log are.log))
+        (stays images.slot_a b.now.seen (replaced a.now.seen images.slot_a is.slot_a.has (leaves images.slot_a are.slot_a)) is.slot_b.has (saves images.slot_a)))) run
       where
         saves : (x : List ℕ) → HoldsSaved e.session.catalogue (saved_of e) (three l.now.seen x b.now.seen)
         saves x = go (newest_of e.slots) refl
@@ -140,10 +141,9 @@ module _ (text : List ℕ) (history : List Txn) (e : EngineParts) (l a b : DiskH
             go (Some info) h = inr (inr (open-saved text e.session.catalogue (tables-few text history e l a b is) is.batches b.now.seen e.slots.b is.slot_b.has is.known_b B info (info-of-a e.slots spare info h)))
 
     pub save-b-run : spare_of e.slots ≡ B → (n : DiskHistory) → LeavesOnly (IsOldShutOrNew b.now.seen bytes) b n → RunLeaves (MayLeave text e.session.catalogue history e) (three l a b) (three l a n)
-    save-b-run spare n run = b_runs Left l a b n
-        (weaken (IsOldShutOrNew b.now.seen bytes) (λ y. (i x : List ℕ) → IsImage l.now i → IsImage a.now x → Left (three i x y)) b n
-        (λ y which i x is_i is_x. subst (λ (u : List ℕ). Left (three i u y)) (sym (image-of _ a.now is.slot_a x is_x)) (subst (λ (t : List ℕ). Left (three t a.now.seen y)) (sym (image-of _ l.now is.log i is_i))
-        (stays a.now.seen y is.slot_a.has (replaced b.now.seen y is.slot_b.has which) (saves y)))) run)
+    save-b-run spare n run = device-runs Left the_slot_b (three l a b) n (IsOldShutOrNew b.now.seen bytes)
+        (λ state leaves images are. subst (λ (x : List ℕ). Left (three images.log x images.slot_b)) (sym (image-of _ a.now is.slot_a images.slot_a are.slot_a)) (subst (λ (i : List ℕ). Left (three i a.now.seen images.slot_b)) (sym (image-of _ l.now is.log images.log are.log))
+        (stays a.now.seen images.slot_b is.slot_a.has (replaced b.now.seen images.slot_b is.slot_b.has (leaves images.slot_b are.slot_b)) (saves images.slot_b)))) run
       where
         saves : (y : List ℕ) → HoldsSaved e.session.catalogue (saved_of e) (three l.now.seen a.now.seen y)
         saves y = go (newest_of e.slots) refl

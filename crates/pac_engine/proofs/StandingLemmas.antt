@@ -9,8 +9,9 @@ use Rattle.pac_ops.specs.declared.transaction.Txn.{Txn}
 use Rattle.pac_outside.specs.Disk.{DiskHistory, IsImage}
 use Rattle.pac_outside.specs.Devices.{AllLeave, RunLeaves}
 use Rattle.pac_outside.specs.Devices.RunLeaves.{rests}
+use Rattle.pac_outside.specs.Devices.WhichDevice.{the_log}
 use Rattle.pac_outside.proofs.Histories.{weaken}
-use Rattle.pac_outside.proofs.Runs.{three, log_runs, run_then, run_end, weaken_run}
+use Rattle.pac_outside.proofs.Runs.{three, run_then, run_end, weaken_run}
 use Rattle.pac_outside.specs.declared.devices.Devices.{Devices}
 use Rattle.pac_types.specs.Fits.{TxnFits}
 use Rattle.pac_types.specs.Typing.{CatalogueState}
@@ -32,6 +33,8 @@ use Rattle.pac_check.specs.SlotStates.{info_of, newest_of, IsSlot}
 use Rattle.pac_check.specs.Saved.{checkpoint_of}
 use Rattle.pac_store.specs.Images.{Images}
 use Rattle.pac_store.specs.Stands.{EndsWith, HasSaved, HoldsSaved, IsHistory, IsShutOrPrefix}
+use Rattle.pac_store.proofs.CallLemmas.{device-runs}
+use Rattle.pac_store.proofs.ImageLemmas.{devices-same}
 use Rattle.pac_store.proofs.StandsLemmas.{fewer, fewer-saved, longer, few-tables, newest-one, readable}
 use Rattle.pac_session.specs.Session.{Rules, SessionState, commits, commits_asked, committed_by, state_after, txn_of, txn_outcome}
 use Rattle.pac_session.specs.Open.{rules_of, state_now}
@@ -40,7 +43,7 @@ use Rattle.pac_engine.specs.declared.parts.EngineParts.{EngineParts}
 use Rattle.pac_engine.specs.Committing.{HasAdded, MayAdd, gate_past, with_batch}
 use Rattle.pac_engine.specs.Moves.{committed_parts, with_request}
 use Rattle.pac_engine.specs.Standing.{EngineStands, KeepsHistory, MayLeave, StandsWith, durable_of, reach_of, saved_of}
-use Rattle.pac_engine.proofs.DeviceLemmas.{image-of, of-three}
+use Rattle.pac_engine.proofs.DeviceLemmas.{image-of}
 
 -- ---- a log with the transactions of a group after it
 
@@ -130,11 +133,10 @@ module _ (text : List ℕ) (history : List Txn) (e : EngineParts) (l a b : DiskH
 
   -- each image of the devices stands for the history
   pub stands-now : AllLeave (MayLeave text cat history e) (three l a b)
-  stands-now = of-three Kept l a b (λ i x y is_i is_x is_y.
-      subst (λ (v : List ℕ). Kept (three i x v)) (sym (image-of _ b.now is.slot_b y is_y))
-      (subst (λ (u : List ℕ). Kept (three i u b.now.seen)) (sym (image-of _ a.now is.slot_a x is_x))
-      (subst (λ (t : List ℕ). Kept (three t a.now.seen b.now.seen)) (sym (image-of _ l.now is.log i is_i))
-      (stands-at is.batches e.session.txns (three l.now.seen a.now.seen b.now.seen) is.log.has is.split (omega (arith, durable-is)) is.slot_a.has is.slot_b.has (saved-here l.now.seen)))))
+  stands-now = λ images are.
+      let all : images ≡ three l.now.seen a.now.seen b.now.seen = devices-same images.log images.slot_a images.slot_b l.now.seen a.now.seen b.now.seen
+      (image-of _ l.now is.log images.log are.log) (image-of _ a.now is.slot_a images.slot_a are.slot_a) (image-of _ b.now is.slot_b images.slot_b are.slot_b) in
+      subst Kept (sym all) (stands-at is.batches e.session.txns (three l.now.seen a.now.seen b.now.seen) is.log.has is.split (omega (arith, durable-is)) is.slot_a.has is.slot_b.has (saved-here l.now.seen))
 
 -- where what is durable and saved is as it was, a crash leaves what it left
 pub leave-same : (text : List ℕ) (catalogue : CatalogueState) (history : List Txn) (before now : EngineParts) (devices : Devices DiskHistory) → durable_of now ≡ durable_of before → saved_of now ≡ saved_of before
@@ -164,10 +166,10 @@ module _ (text : List ℕ) (history : List Txn) (e : EngineParts) (l a b : DiskH
       (prefix-more text e.session.catalogue is.batches e.session.txns a.now.seen is.slot_a.has) (prefix-more text e.session.catalogue is.batches e.session.txns b.now.seen is.slot_b.has) (saved-here text history e l a b is i)) which
 
   pub commit-run : RunLeaves (MayLeave text e.session.catalogue history e) (three l a b) (three n a b)
-  commit-run = log_runs Left l n a b
-      (weaken (λ i. HoldsLog text e.session.catalogue is.batches i ⊎ HoldsLog text e.session.catalogue more i) (λ i. (x y : List ℕ) → IsImage a.now x → IsImage b.now y → Left (three i x y)) l n
-      (λ i which x y is_x is_y. subst (λ (v : List ℕ). Left (three i x v)) (sym (image-of _ b.now is.slot_b y is_y)) (subst (λ (u : List ℕ). Left (three i u b.now.seen)) (sym (image-of _ a.now is.slot_a x is_x)) (old-or-new i which)))
-      (may is.log))
+  commit-run = device-runs Left the_log (three l a b) n (λ i. HoldsLog text e.session.catalogue is.batches i ⊎ HoldsLog text e.session.catalogue more i)
+      (λ state leaves images are. subst (λ (y : List ℕ). Left (three images.log images.slot_a y)) (sym (image-of _ b.now is.slot_b images.slot_b are.slot_b))
+      (subst (λ (x : List ℕ). Left (three images.log x b.now.seen)) (sym (image-of _ a.now is.slot_a images.slot_a are.slot_a)) (old-or-new images.log (leaves images.log are.log))))
+      (may is.log)
 
   pub commit-fails : (now : EngineParts) → durable_of now ≡ durable_of e → saved_of now ≡ saved_of e → KeepsHistory text history e now (three l a b) (three n a b)
   commit-fails now durable saved = record {

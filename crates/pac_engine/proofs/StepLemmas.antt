@@ -198,8 +198,8 @@ module _ (e : EngineParts) (live : IsLive e) (asked : Request) (txn : Txn) (asks
       → StopsAt (rules_of e.session) e.log.gate.place start (cut_one (rules_of e.session) start group asked).closed given cause
   anew-stops = close-stops (rules_of e.session) e.log.gate.place start (cut_one (rules_of e.session) start group asked).closed group (ap (λ (cut : GroupCut). cut.closed) anew-cut) e.session.txns within.body
 
-  pub anew-unrun : (given : List Reply) → given ≡ e.session.held → StopsAt (rules_of e.session) e.log.gate.place start (cut_one (rules_of e.session) start group asked).closed given NoMemory
-  anew-unrun given gave = closed-stops (rules_of e.session) e.log.gate.place start (cut_one (rules_of e.session) start group asked).closed group (ap (λ (cut : GroupCut). cut.closed) anew-cut) e.session.txns within.body given (gave ∙ within.answers)
+  pub anew-unrun : (given : List Reply) → given ≡ e.session.held → HasRoomAt e.log.gate.place e.session.txns → StopsAt (rules_of e.session) e.log.gate.place start (cut_one (rules_of e.session) start group asked).closed given NoMemory
+  anew-unrun given gave room = closed-stops (rules_of e.session) e.log.gate.place start (cut_one (rules_of e.session) start group asked).closed group (ap (λ (cut : GroupCut). cut.closed) anew-cut) e.session.txns within.body given (gave ∙ within.answers) room
 
   pub anew-gate : IsGateAfter (rules_of e.session) e.log.gate.place start (cut_one (rules_of e.session) start group asked).closed (gate_past e.session.txns e.log.gate)
   anew-gate = gate-closed e live.working.counted start group within (cut_one (rules_of e.session) start group asked).closed (ap (λ (cut : GroupCut). cut.closed) anew-cut)

@@ -67,12 +67,13 @@ IsKept engine (reply.Saved txns) = txns < saved_of engine
 
 -- ---- where a step stops
 
--- the replies are those of the first of these groups
+-- the replies are those of the first of these groups, and each of those fits the log
 pub record IsUpToSome (groups : List Group) (given : List Reply) : Type 0 where
   pub before : List Group
   pub rest : List Group
   pub split : groups ≡ before ++ rest
   pub replied : given ≡ all_replies before
+  pub fit : AllByRecursion GroupFits before
 
 -- they are those of the groups before one of which this is said, and each of those fits the log
 pub record IsUpToGroup (P : Group → Type 0) (groups : List Group) (given : List Reply) : Type 0 where
@@ -106,6 +107,11 @@ pub record IsUnsaved (groups : List Group) (given : List Reply) : Type 0 where
   pub replied : given ≡ all_replies before ++ held
   pub fit : AllByRecursion GroupFits groups
 
+-- The groups whose replies were given out fit the log: they are the first of these groups, or all of them, without the reply of
+-- a save that ends the last.
+abbrev pub GivesFitting : List Group → List Reply → Type 0
+GivesFitting groups given = IsUpToSome groups given ⊎ IsUnsaved groups given
+
 -- how many bytes a slot has with the checkpoint of these tables, the log's gate being at this offset
 abbrev pub slot_len : Rules → SessionState → ℕ → ℕ
 slot_len rules state place = 1 + length (checkpoint_bytes (checkpoint_of (length rules.catalogue.tables) (head_with state.number place) state.tables))
@@ -122,7 +128,7 @@ StopsAt rules place start closed given DiskFault = IsUpToGroup CallsDevice (desc
 StopsAt rules place start closed given (LogFull need) = IsUpToGroup (NeedsTooMuch need) (described rules place start closed) given
 StopsAt rules place start closed given (TooLarge bytes) = IsTooLarge rules place start closed bytes given
 StopsAt rules place start closed given Ended = ⊥
-StopsAt rules place start closed given NoMemory = IsUpToSome (described rules place start closed) given ⊎ IsUnsaved (described rules place start closed) given
+StopsAt rules place start closed given NoMemory = GivesFitting (described rules place start closed) given
 
 -- Of a fault of a device the count of one device rose by one, and no call of any came after it. Else no call failed.
 abbrev pub CountsFault : EngineCause → Devices ℕ → Devices ℕ → Type 0

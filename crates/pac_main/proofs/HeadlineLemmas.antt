@@ -4,19 +4,18 @@ use Rattle.std.specs.Prelude.{◌≢◌}
 use Rattle.std.specs.FinMap.{empty}
 use Rattle.std.proofs.lemmas.List.{append-nil, take-append-drop, take-append-le}
 use Rattle.pac_ops.specs.declared.transaction.Txn.{Txn}
-use Rattle.pac_outside.specs.Devices.{AllLeave, AreImages, OnceKnown, all_known, all_three}
+use Rattle.pac_outside.specs.Devices.{AllLeave, AreImages, OnceKnown, all_known}
 use Rattle.pac_outside.specs.Disk.{DiskState, DiskHistory, IsImage, settled}
 use Rattle.pac_outside.specs.Parts.{reads_of}
 use Rattle.pac_outside.proofs.Images.{one_image}
-use Rattle.pac_outside.proofs.Runs.{three}
 use Rattle.pac_outside.specs.declared.devices.Devices.{Devices}
 use Rattle.pac_types.specs.Typing.{CatalogueState}
 use Rattle.pac_log.specs.Logs.{header_bytes}
 use Rattle.pac_types.specs.Accepted.{IsAccepted}
-use Rattle.pac_store.specs.Images.{Images, IfReadKnown}
+use Rattle.pac_store.specs.Images.{Images, IfImagesKnown}
+use Rattle.pac_store.proofs.ImageLemmas.{devices-same, images-of}
 use Rattle.pac_store.specs.Stands.{StandsFor}
 use Rattle.pac_store.proofs.StandsLemmas.{goes-on}
-use Rattle.pac_recover.specs.Refusals.{IfImagesKnown}
 use Rattle.pac_store.specs.Made.{IsNewStore, MakesStore}
 use Rattle.pac_session.specs.Session.{Rules, SessionState, committed}
 use Rattle.pac_run.specs.Acked.{Acknowledges}
@@ -57,15 +56,13 @@ same_image image other state is at = one_image image other (subst (λ (s : DiskS
 
 same_images : (images : Images) (devices : Devices DiskHistory) → HoldImages images devices → (others : Images) → AreImages devices others → others ≡ images
 same_images images devices hold others are =
-    ap (λ (log : List ℕ). three log others.slot_a others.slot_b) (same_image images.log others.log devices.log.now hold.log are.log)
-    ∙ ap (λ (a : List ℕ). three images.log a others.slot_b) (same_image images.slot_a others.slot_a devices.slot_a.now hold.slot_a are.slot_a)
-    ∙ ap (λ (b : List ℕ). three images.log images.slot_a b) (same_image images.slot_b others.slot_b devices.slot_b.now hold.slot_b are.slot_b)
+    devices-same others.log others.slot_a others.slot_b images.log images.slot_a images.slot_b
+    (same_image images.log others.log devices.log.now hold.log are.log) (same_image images.slot_a others.slot_a devices.slot_a.now hold.slot_a are.slot_a) (same_image images.slot_b others.slot_b devices.slot_b.now hold.slot_b are.slot_b)
 
 seen_images : (images : Images) (devices : Devices DiskHistory) → HoldImages images devices → reads_of devices ≡ images
 seen_images images devices hold =
-    ap (λ (s : DiskState). three s.seen devices.slot_a.now.seen devices.slot_b.now.seen) hold.log
-    ∙ ap (λ (s : DiskState). three images.log s.seen devices.slot_b.now.seen) hold.slot_a
-    ∙ ap (λ (s : DiskState). three images.log images.slot_a s.seen) hold.slot_b
+    devices-same devices.log.now.seen devices.slot_a.now.seen devices.slot_b.now.seen images.log images.slot_a images.slot_b
+    (ap (λ (s : DiskState). s.seen) hold.log) (ap (λ (s : DiskState). s.seen) hold.slot_a) (ap (λ (s : DiskState). s.seen) hold.slot_b)
 
 -- ---- a new store
 
@@ -240,16 +237,8 @@ module _ (text : List ℕ) (catalogue : CatalogueState) where
 recovers_here : (limit status : ℕ) (text : List ℕ) (catalogue : CatalogueState) (history : List Txn) (least : ℕ) (before : Devices (Option DiskHistory)) (devices : ObservedDevices) (output : Observed) (entry : Devices DiskHistory)
     → all_known before ≡ Some entry → StandsFor text catalogue history least (reads_of entry)
     → IfImagesKnown (λ images. StandsFor text catalogue history least images → RecoversPrefix limit status catalogue history least devices output) before → RecoversPrefix limit status catalogue history least devices output
-recovers_here limit status text catalogue history least before devices output entry known stands h = go before.log before.slot_a before.slot_b known h
-  where
-    go : (l x y : Option DiskHistory) → all_three l x y ≡ Some entry → IfReadKnown (λ images. StandsFor text catalogue history least images → RecoversPrefix limit status catalogue history least devices output) l x y
-        → RecoversPrefix limit status catalogue history least devices output
-    go None x y known h = absurd cc
-    go (Some l) None y known h = absurd cc
-    go (Some l) (Some x) None known h = absurd cc
-    go (Some l) (Some x) (Some y) known h =
-        let is : three l x y ≡ entry = cc in
-        h (subst (λ (e : Devices DiskHistory). StandsFor text catalogue history least (reads_of e)) (sym is) stands)
+recovers_here limit status text catalogue history least before devices output entry known stands h =
+    images-of (λ images. StandsFor text catalogue history least images → RecoversPrefix limit status catalogue history least devices output) before entry known h stands
 
 pub recovers-all : (text : List ℕ) (catalogue : CatalogueState) (history : List Txn) (least : ℕ) (left : Devices DiskHistory) → AllStand text catalogue history least left
     → (limit status : ℕ) (devices : ObservedDevices) (output errors : Observed) (entry : Devices DiskHistory) → all_known devices.before ≡ Some entry → AreFound left entry → RecoverEnds limit status devices output errors

@@ -1,20 +1,26 @@
 -- A run that wasn't begun, and how much a run takes from its input.
-use Rattle.std.proofs.Common.{◌≡◌, ◌++◌, ℕ, List, [], Option, Some, None, Result, Ok, Err, ◌⊎◌, inl, refl, arith}
+use Rattle.std.proofs.Common.{◌≡◌, ◌++◌, ℕ, List, [], ◌∷◌, Option, Some, None, Result, Ok, Err, ◌⊎◌, inl, refl, arith}
 use Rattle.std.specs.Prelude.{IfSome}
 use Rattle.std.specs.Io.KnownBytes.{append_known, prepend_known}
 use Rattle.std.specs.FinMap.{empty}
 use Rattle.std.proofs.lemmas.List.{append-nil}
 use Rattle.pac_outside.specs.Content.{GaveAtMost}
+use Rattle.pac_outside.specs.Devices.{all_known}
 use Rattle.pac_outside.specs.Devices.RunLeaves.{rests}
 use Rattle.pac_outside.specs.Disk.{DiskHistory}
 use Rattle.pac_outside.specs.declared.devices.Devices.{Devices}
-use Rattle.pac_outside.proofs.Runs.{three}
 use Rattle.pac_types.specs.Typing.{CatalogueState}
+use Rattle.pac_store.specs.Images.{IfImagesKnown}
+use Rattle.pac_store.proofs.ImageLemmas.{images-any}
+use Rattle.pac_request.specs.declared.request.Request.{Request}
+use Rattle.pac_request.specs.declared.request.Request.TheVariants as request
 use Rattle.pac_session.specs.Session.{Rules, SessionState}
 use Rattle.pac_recover.specs.declared.errors.LoadError.TheVariants as load
 use Rattle.pac_recover.specs.declared.errors.RecoverError.TheVariants as recover
+use Rattle.pac_engine.proofs.DeviceLemmas.{rest-known}
 use Rattle.pac_run.specs.Asked.{TookAtMost}
-use Rattle.pac_run.specs.Run.{AtExit, AtMoments, IsBegun, IsRun, WhileAllStand, IfSeenKnown}
+use Rattle.pac_run.specs.Opening.{AllStand}
+use Rattle.pac_run.specs.Run.{AtExit, AtMoments, IsBegun, IsRun, WhileAllStand}
 use Rattle.pac_run.specs.Stopping.{IsUnopened}
 use Rattle.pac_run.specs.declared.limits.TheConstants.{MAX_INPUT}
 use Rattle.pac_run.specs.declared.stop.RunStop.{RunStop}
@@ -46,6 +52,10 @@ append_none : (known : Option (List ℕ)) → known ≡ append_known known []
 append_none None = refl
 append_none (Some bytes) = let nil : bytes ++ [] ≡ bytes = append-nil bytes in cc
 
+none_saved : (before rest : List Request) → [] ≡ before ++ request.Save ∷ rest → ⊥
+none_saved [] rest e = absurd cc
+none_saved (b ∷ bs) rest e = absurd cc
+
 idle_handled : (left : Option (List ℕ)) → IfSome left (λ text. (rest : List ℕ) × (prepend_known [] left ≡ Some rest) × (text ≡ rest))
 idle_handled None = tt
 idle_handled (Some text) = (text, refl, refl)
@@ -64,26 +74,19 @@ idle_start = record { tables = empty; number = 0 }
 abbrev pub no_memory : RunStop
 no_memory = run.Opening (recover.Load load.NoMemory)
 
-idle_begun : (rules : Rules) (place : ℕ) (start : SessionState) (log a b : Option DiskHistory) → IfSeenKnown (λ images. IsUnopened (Err no_memory) [] ⊎ IsBegun rules place start images) (three log a b)
-idle_begun rules place start None a b = tt
-idle_begun rules place start (Some l) None b = tt
-idle_begun rules place start (Some l) (Some x) None = tt
-idle_begun rules place start (Some l) (Some x) (Some y) = inl ((recover.Load load.NoMemory, refl), refl)
+idle_begun : (rules : Rules) (place : ℕ) (start : SessionState) (known : Devices (Option DiskHistory)) → IfImagesKnown (λ images. IsUnopened (Err no_memory) [] ⊎ IsBegun rules place start images) known
+idle_begun rules place start = images-any (λ images. IsUnopened (Err no_memory) [] ⊎ IsBegun rules place start images) (λ images. inl ((recover.Load load.NoMemory, refl), refl))
 
-idle_exit : (rules : Rules) (start : SessionState) (log a b : Option DiskHistory) → WhileAllStand (λ text catalogue history least. AtExit text catalogue history rules 0 start [] []) (three log a b) (three log a b)
-idle_exit rules start None a b = λ text catalogue history least. tt
-idle_exit rules start (Some l) None b = λ text catalogue history least. tt
-idle_exit rules start (Some l) (Some x) None = λ text catalogue history least. tt
-idle_exit rules start (Some l) (Some x) (Some y) = λ text catalogue history least stand. inl (refl, λ images are. are)
+idle_exit : (rules : Rules) (start : SessionState) (known : Devices (Option DiskHistory)) → WhileAllStand (λ text catalogue history least. AtExit text catalogue history rules 0 start [] []) known known
+idle_exit rules start known = λ text catalogue history least.
+    rest-known (AllStand text catalogue history least) (AtExit text catalogue history rules 0 start [] []) (λ devices stand. inl (refl, λ images are. are)) (all_known known)
 
-idle_moments : (rules : Rules) (start : SessionState) (log a b : Option DiskHistory) → WhileAllStand (λ text catalogue history least. AtMoments text catalogue history least rules start []) (three log a b) (three log a b)
-idle_moments rules start None a b = λ text catalogue history least. tt
-idle_moments rules start (Some l) None b = λ text catalogue history least. tt
-idle_moments rules start (Some l) (Some x) None = λ text catalogue history least. tt
-idle_moments rules start (Some l) (Some x) (Some y) = λ text catalogue history least stand. rests (three l x y) (λ images are. inl are)
+idle_moments : (rules : Rules) (start : SessionState) (known : Devices (Option DiskHistory)) → WhileAllStand (λ text catalogue history least. AtMoments text catalogue history least rules start []) known known
+idle_moments rules start known = λ text catalogue history least.
+    rest-known (AllStand text catalogue history least) (AtMoments text catalogue history least rules start []) (λ devices stand. rests devices (λ images are. inl are)) (all_known known)
 
-pub idle-run : (group_size limit : ℕ) (left held : Option (List ℕ)) (log a b : Option DiskHistory) (faulted : Type 0) → IsRun group_size limit left left held held (three log a b) (three log a b) faulted (Err no_memory)
-idle-run group_size limit left held log a b faulted = record {
+pub idle-run : (group_size limit : ℕ) (left held : Option (List ℕ)) (known : Devices (Option DiskHistory)) (faulted : Type 0) → IsRun group_size limit left left held held known known faulted (Err no_memory)
+idle-run group_size limit left held known faulted = record {
   lines = [];
   ahead = [];
   handled = idle_handled left;
@@ -101,7 +104,7 @@ idle-run group_size limit left held log a b faulted = record {
   most = refl;
   start = idle_start;
   place = 0;
-  begun = idle_begun (idle_rules group_size limit) 0 idle_start log a b;
+  begun = idle_begun (idle_rules group_size limit) 0 idle_start known;
   prefix = record { count = 0; is = refl };
   whole = tt;
   exact = λ e. absurd e;
@@ -110,10 +113,12 @@ idle-run group_size limit left held log a b faulted = record {
   slots = λ none. refl;
   still = λ none. refl;
   there = inl ((recover.Load load.NoMemory, refl), refl);
-  exit = idle_exit (idle_rules group_size limit) idle_start log a b;
-  moments = idle_moments (idle_rules group_size limit) idle_start log a b;
+  exit = idle_exit (idle_rules group_size limit) idle_start known;
+  moments = idle_moments (idle_rules group_size limit) idle_start known;
   given = [];
   written = record { count = 0; is = refl };
   all = inl refl;
+  fit = inl (record { before = []; rest = []; split = refl; replied = refl; fit = tt });
+  saves = λ before rest same handled. absurd (none_saved before rest same);
   stopped = inl ((recover.Load load.NoMemory, refl), refl, refl);
 }

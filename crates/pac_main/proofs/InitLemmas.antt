@@ -22,7 +22,7 @@ use Rattle.pac_script.proofs.OneScript.{few_or_excess}
 use Rattle.pac_main.specs.Causes.{GivesNoText, InitStops}
 use Rattle.pac_script.specs.Script.{IsUnaccepted}
 use Rattle.pac_main.specs.Init.{AreUntouched, IsAcceptedInput, IsNoStoreFor, IsNoStoreText, IsStoreText}
-use Rattle.pac_main.specs.Inputs.{input_of_read, input_of_script}
+use Rattle.pac_main.specs.Inputs.{IsAcceptedText, input_of_read, input_of_script}
 use Rattle.pac_main.specs.Stop.{stop_of_make}
 use Rattle.pac_main.specs.Streams.{Observed, ObservedDevices, AnyFaulted}
 use Rattle.pac_main.proofs.ExplainLemmas.{the_cause, unexplained_longer}
@@ -30,18 +30,14 @@ use Rattle.pac_main.proofs.InputLemmas.{whole-input}
 
 -- ---- the text
 
--- some catalogue is accepted as that of the text
-abbrev pub HasStore : List ℕ → Type 0
-HasStore text = (catalogue : CatalogueState) × IsAccepted text catalogue
-
-with_store : (old : Option (List ℕ)) (items : List ℕ) → IfSome old (λ all. all ≡ items) → HasStore items → IsStoreText items old
+with_store : (old : Option (List ℕ)) (items : List ℕ) → IfSome old (λ all. all ≡ items) → IsAcceptedText items → IsStoreText items old
 with_store old items whole has = (has, whole)
 
 -- a text that a store can be made of is all of the input
-pub store-text : (old new : Option (List ℕ)) (items : List ℕ) → Gave old items new → (length items ≤ 65536 → IsAtEnd new) → HasStore items → IsStoreText items old
+pub store-text : (old new : Option (List ℕ)) (items : List ℕ) → Gave old items new → (length items ≤ 65536 → IsAtEnd new) → IsAcceptedText items → IsStoreText items old
 store-text old new items gave at_end has = with_store old items (whole-input old new items gave (at_end has.1.has.reads.short)) has
 
-not_accepted : (text : List ℕ) (fault : ScriptFault) (catalogue : CatalogueState) → IsUnaccepted text fault → IsAccepted text catalogue → ⊥
+pub not_accepted : (text : List ℕ) (fault : ScriptFault) (catalogue : CatalogueState) → IsUnaccepted text fault → IsAccepted text catalogue → ⊥
 not_accepted text (Catalogue fault) catalogue h is = catalogue_or_fault text catalogue fault is.has h
 not_accepted text (TooManyOps name count) catalogue h is = few_or_excess text catalogue h.0 name count is.has is.few h.1 h.2
 not_accepted text (Line number f) catalogue h is = h

@@ -1,6 +1,6 @@
 -- What the bytes that were read say of the input.
 use Rattle.std.proofs.Common.{◌≡◌, ◌≤◌, ℕ, List, ◌++◌, length, Option, Some, None, Result, Ok, Err, refl, sym, ap, subst, ◌∙◌}
-use Rattle.std.specs.Prelude.{IfSome, IfErr}
+use Rattle.std.specs.Prelude.{IfSome, IsSomeAnd, IfErr}
 use Rattle.std.specs.Io.KnownBytes.{prepend_known}
 use Rattle.std.proofs.lemmas.List.{append-nil}
 use Rattle.pac_base.specs.declared.refusal.Refusal.{Refusal}
@@ -31,6 +31,11 @@ err_is {T} {E} (Err e) x y a b = sym (error_same e x a) ∙ error_same e y b
 -- an error that came has its cause
 pub if_err : {T E : Type 0} (P : E → Type 0) (r : Result T E) (error : E) → r ≡ Err error → P error → IfErr r P
 if_err {T} {E} P r error is h = subst (λ (q : Result T E). IfErr q P) (sym is) h
+
+-- what an option holds of which this is so
+pub some_is : {A : Type 0} (P : A → Type 0) (option : Option A) → IsSomeAnd option P → (held : A) × (option ≡ Some held) × P held
+some_is P None has = absurd has
+some_is P (Some held) has = (held, refl, has)
 
 -- ---- the bytes that were read are the whole input, or more than it may have
 

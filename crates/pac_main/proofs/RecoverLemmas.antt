@@ -2,46 +2,30 @@
 use Rattle.std.proofs.Common.{◌≡◌, ◌≢◌, ℕ, Bool, true, false, List, [], ◌∷◌, length, Option, Some, None, Result, Ok, Err, inl, inr, refl, sym, subst, arith}
 use Rattle.std.specs.Prelude.{IsTrue}
 use Rattle.pac_ops.specs.declared.transaction.Txn.{Txn}
-use Rattle.pac_outside.specs.Devices.{OneFaulted}
+use Rattle.pac_outside.specs.Devices.{OneFaulted, each}
 use Rattle.pac_outside.specs.Disk.{DiskHistory}
+use Rattle.pac_outside.specs.Parts.{reads_of}
 use Rattle.pac_outside.specs.declared.devices.Devices.{Devices}
-use Rattle.pac_outside.proofs.Runs.{three}
 use Rattle.pac_types.specs.Execution.{first_over}
 use Rattle.pac_types.specs.Typing.{CatalogueState}
-use Rattle.pac_store.specs.Images.{Images, IfReadKnown}
+use Rattle.pac_store.specs.Images.{IfImagesKnown}
 use Rattle.pac_store.specs.Stands.{StandsFor}
+use Rattle.pac_store.proofs.ImageLemmas.{images-any, images-then, where-known}
 use Rattle.pac_recover.specs.declared.errors.LoadError.TheVariants as load
 use Rattle.pac_recover.specs.declared.errors.RecoverError.{RecoverError}
 use Rattle.pac_recover.specs.declared.errors.RecoverError.TheVariants as recover
 use Rattle.pac_recover.specs.declared.recovery.Recovered.{Recovered}
 use Rattle.pac_recover.specs.Recovering.{IsPrefixOverLimit, IsRecoveredFrom, IsRecoveredPrefix, Recovers}
-use Rattle.pac_recover.specs.Refusals.{AreRefused, IfImagesKnown}
+use Rattle.pac_recover.specs.Refusals.{AreRefused}
 use Rattle.pac_report.specs.Dump.{tables_text}
 use Rattle.pac_main.specs.Causes.{IsPrefixUnrecovered, IsRecovered, IsUnrecovered, RecoverStops}
-use Rattle.pac_main.specs.Recover.{IsDumpOfPrefix, IsFaultless, IsRecovery, IsRefusedStore, RecoverEnds, RecoversPrefix, StaysInLimit}
+use Rattle.pac_main.specs.Recover.{IsDumpOfPrefix, IsRecovery, IsRefusedStore, RecoverEnds, RecoversPrefix, StaysInLimit, StoredInLimit}
 use Rattle.pac_main.specs.Stop.{line_of, status_of, stop_of_recover, takes_memory}
-use Rattle.pac_main.specs.Streams.{IsOneOf, IsTaken, IsReported, Observed, ObservedDevices}
+use Rattle.pac_main.specs.Streams.{IsFaultless, IsOneOf, IsTaken, IsReported, Observed, ObservedDevices}
 use Rattle.pac_main.specs.declared.stop.Stop.{Stop}
 use Rattle.pac_main.specs.declared.stop.Stop.TheVariants.{Usage, Script as ScriptStop, NotEmpty, NoStore, Damaged, Aborted, RowsOver, InputFault, OutputFault, DiskFault, NoMemory, LogFull, TooLong, TooLarge}
 use Rattle.pac_main.proofs.StatusLemmas.{ADeviceRefusal, aborted_of, device_of, disk_of, never_done, output_of, over_of}
 use Rattle.pac_main.proofs.StopLemmas.{Reported}
-
--- ---- where the devices' histories are known
-
-read_weaker : (P Q : Images → Type 0) → ((images : Images) → P images → Q images) → (log a b : Option DiskHistory) → IfReadKnown P log a b → IfReadKnown Q log a b
-read_weaker P Q f None a b h = tt
-read_weaker P Q f (Some l) None b h = tt
-read_weaker P Q f (Some l) (Some x) None h = tt
-read_weaker P Q f (Some l) (Some x) (Some y) h = f _ h
-
-read_free : (P : Images → Type 0) → ((images : Images) → P images) → (log a b : Option DiskHistory) → IfReadKnown P log a b
-read_free P f None a b = tt
-read_free P f (Some l) None b = tt
-read_free P f (Some l) (Some x) None = tt
-read_free P f (Some l) (Some x) (Some y) = f _
-
-held_weaker : (P Q : Images → Type 0) → ((images : Images) → P images → Q images) → (devices : Devices (Option DiskHistory)) → IfImagesKnown P devices → IfImagesKnown Q devices
-held_weaker P Q f devices h = read_weaker P Q f devices.log devices.slot_a devices.slot_b h
 
 -- ---- why nothing is recovered
 
@@ -49,18 +33,18 @@ held_weaker P Q f devices h = read_weaker P Q f devices.log devices.slot_a devic
 abbrev pub IsError : RecoverError → RecoverError → Type 0
 IsError error other = ◌≡◌ {A = Result Recovered RecoverError} (Err error) (Err other)
 
-module _ (limit : ℕ) (log a b : Option DiskHistory) (was is : Devices ℕ) where
+module _ (limit : ℕ) (before : Devices (Option DiskHistory)) (was is : Devices ℕ) where
   -- what a recovery says with its error
   pub record Unrecovered (error : RecoverError) : Type 0 where
-    pub refused : AreRefused limit (three log a b) error
-    pub stands : (text : List ℕ) (catalogue : CatalogueState) (history : List Txn) (least : ℕ) → IfReadKnown (λ images. StandsFor text catalogue history least images → Recovers catalogue history least (Err error)) log a b
+    pub refused : AreRefused limit before error
+    pub stands : (text : List ℕ) (catalogue : CatalogueState) (history : List Txn) (least : ℕ) → IfImagesKnown (λ images. StandsFor text catalogue history least images → Recovers catalogue history least (Err error)) before
     pub disk_fault : IsError error (recover.Load load.DiskFault) → OneFaulted was is
     pub quiet : (IsError error (recover.Load load.DiskFault) → ⊥) → is ≡ was
 
   module _ (after : Devices (Option DiskHistory)) (sink : Observed) where
     -- the devices, as they are observed
     abbrev devices : ObservedDevices
-    devices = record { before = three log a b; after = after; faults_before = was; faults_after = is }
+    devices = record { before = before; after = after; faults_before = was; faults_after = is }
 
     cause : (error : RecoverError) → Unrecovered error → IsUnrecovered limit devices sink (stop_of_recover error)
     cause (recover.Load load.NoStore) h = h.refused
@@ -90,30 +74,30 @@ module _ (limit : ℕ) (log a b : Option DiskHistory) (was is : Devices ℕ) whe
     not-recovered error h = record {
       cause = cause error h;
       stands = λ text catalogue history least.
-          read_weaker (λ images. StandsFor text catalogue history least images → Recovers catalogue history least (Err error)) (λ images. StandsFor text catalogue history least images → IsPrefixUnrecovered limit catalogue history least sink (stop_of_recover error))
-          (λ images f stands. prefix error h catalogue history least (f stands)) log a b (h.stands text catalogue history least);
+          images-then (λ images. StandsFor text catalogue history least images → Recovers catalogue history least (Err error)) (λ images. StandsFor text catalogue history least images → IsPrefixUnrecovered limit catalogue history least sink (stop_of_recover error))
+          (λ images f stands. prefix error h catalogue history least (f stands)) before (h.stands text catalogue history least);
       quiet = no_fault error h;
     }
 
     -- what is recovered finds no memory for its text
     pub no-text : is ≡ was → RecoverStops limit devices sink NoMemory
-    no-text quiet = record { cause = tt; stands = λ text catalogue history least. read_free (λ images. StandsFor text catalogue history least images → Unit {0}) (λ images stands. tt) log a b; quiet = λ other. quiet }
+    no-text quiet = record { cause = tt; stands = λ text catalogue history least. images-any (λ images. StandsFor text catalogue history least images → Unit {0}) (λ images stands. tt) before; quiet = λ other. quiet }
 
 -- ---- what is recovered
 
 -- what a recovery says of its tables
-pub record IsFound (limit : ℕ) (log a b : Option DiskHistory) (recovered : Recovered) : Type 0 where
-  pub is : IfReadKnown (IsRecoveredFrom recovered.catalogue recovered.tables.rows recovered.txns) log a b
+pub record IsFound (limit : ℕ) (before : Devices (Option DiskHistory)) (recovered : Recovered) : Type 0 where
+  pub is : IfImagesKnown (IsRecoveredFrom recovered.catalogue recovered.tables.rows recovered.txns) before
   pub within : first_over limit (length recovered.catalogue.tables) recovered.tables.rows ≡ None
-  pub stands : (text : List ℕ) (catalogue : CatalogueState) (history : List Txn) (least : ℕ) → IfReadKnown (λ images. StandsFor text catalogue history least images → Recovers catalogue history least (Ok recovered)) log a b
+  pub stands : (text : List ℕ) (catalogue : CatalogueState) (history : List Txn) (least : ℕ) → IfImagesKnown (λ images. StandsFor text catalogue history least images → Recovers catalogue history least (Ok recovered)) before
 
 -- the limit is handed down as another number type
-pub found_of : (limit number : ℕ) (log a b : Option DiskHistory) (recovered : Recovered) → number ≡ limit → IfReadKnown (IsRecoveredFrom recovered.catalogue recovered.tables.rows recovered.txns) log a b → first_over number (length recovered.catalogue.tables) recovered.tables.rows ≡ None
-    → ((text : List ℕ) (catalogue : CatalogueState) (history : List Txn) (least : ℕ) → IfReadKnown (λ images. StandsFor text catalogue history least images → Recovers catalogue history least (Ok recovered)) log a b) → IsFound limit log a b recovered
-found_of limit number log a b recovered same is within stands = record { is = is; within = subst (λ (n : ℕ). first_over n (length recovered.catalogue.tables) recovered.tables.rows ≡ None) same within; stands = stands }
+pub found_of : (limit number : ℕ) (before : Devices (Option DiskHistory)) (recovered : Recovered) → number ≡ limit → IfImagesKnown (IsRecoveredFrom recovered.catalogue recovered.tables.rows recovered.txns) before → first_over number (length recovered.catalogue.tables) recovered.tables.rows ≡ None
+    → ((text : List ℕ) (catalogue : CatalogueState) (history : List Txn) (least : ℕ) → IfImagesKnown (λ images. StandsFor text catalogue history least images → Recovers catalogue history least (Ok recovered)) before) → IsFound limit before recovered
+found_of limit number before recovered same is within stands = record { is = is; within = subst (λ (n : ℕ). first_over n (length recovered.catalogue.tables) recovered.tables.rows ≡ None) same within; stands = stands }
 
-module _ (limit : ℕ) (log a b : Option DiskHistory) (recovered : Recovered) (found : IsFound limit log a b recovered) (P : List ℕ → Type 0) (has : P (tables_text recovered.tables.rows 0 recovered.catalogue.tables)) where
-  pub is-recovery : IsRecovery limit (three log a b) P
+module _ (limit : ℕ) (before : Devices (Option DiskHistory)) (recovered : Recovered) (found : IsFound limit before recovered) (P : List ℕ → Type 0) (has : P (tables_text recovered.tables.rows 0 recovered.catalogue.tables)) where
+  pub is-recovery : IsRecovery limit before P
   is-recovery = record { catalogue = recovered.catalogue; tables = recovered.tables.rows; txns = recovered.txns; is = found.is; within = found.within; has = has }
 
   one_prefix : (catalogue : CatalogueState) (history : List Txn) (least : ℕ) → IsRecoveredPrefix catalogue history least recovered → IsDumpOfPrefix limit catalogue history least P
@@ -124,10 +108,10 @@ module _ (limit : ℕ) (log a b : Option DiskHistory) (recovered : Recovered) (f
     has = subst (λ (c : CatalogueState). P (tables_text recovered.tables.rows 0 c.tables)) f.same has;
   }
 
-  pub is-prefix-dump : (text : List ℕ) (catalogue : CatalogueState) (history : List Txn) (least : ℕ) → IfReadKnown (λ images. StandsFor text catalogue history least images → IsDumpOfPrefix limit catalogue history least P) log a b
+  pub is-prefix-dump : (text : List ℕ) (catalogue : CatalogueState) (history : List Txn) (least : ℕ) → IfImagesKnown (λ images. StandsFor text catalogue history least images → IsDumpOfPrefix limit catalogue history least P) before
   is-prefix-dump text catalogue history least =
-      read_weaker (λ images. StandsFor text catalogue history least images → Recovers catalogue history least (Ok recovered)) (λ images. StandsFor text catalogue history least images → IsDumpOfPrefix limit catalogue history least P)
-      (λ images f stands. one_prefix catalogue history least (f stands)) log a b (found.stands text catalogue history least)
+      images-then (λ images. StandsFor text catalogue history least images → Recovers catalogue history least (Ok recovered)) (λ images. StandsFor text catalogue history least images → IsDumpOfPrefix limit catalogue history least P)
+      (λ images f stands. one_prefix catalogue history least (f stands)) before (found.stands text catalogue history least)
 
 -- ---- the statuses
 
@@ -199,11 +183,37 @@ module _ (limit : ℕ) (devices : ObservedDevices) (sink errors : Observed) wher
       complete = λ none stays. refl;
     }
 
+  -- what is stored is within the limit
+  recovers : (known : Devices DiskHistory) (stop : Stop) → IsUnrecovered limit (record devices { before = each Some known }) sink stop → (catalogue : CatalogueState) (history : List Txn) (least : ℕ)
+      → IsPrefixUnrecovered limit catalogue history least sink stop → StoredInLimit limit (reads_of known) → IsFaultless devices sink → IsOneOf (status_of stop) (0 ∷ 9 ∷ [])
+  recovers known NoStore h catalogue history least f stays none = absurd f
+  recovers known (Damaged damage) h catalogue history least f stays none = absurd f
+  recovers known (Aborted note) h catalogue history least f stays none = absurd f
+  recovers known (RowsOver name rows most) h catalogue history least f stays none = absurd (stays name rows h.1)
+  recovers known OutputFault h catalogue history least f stays none = absurd (none.1 h.0)
+  recovers known DiskFault h catalogue history least f stays none = absurd (none.0 h)
+  recovers known NoMemory h catalogue history least f stays none = refl
+  recovers known Usage h catalogue history least f stays none = absurd h
+  recovers known (ScriptStop fault) h catalogue history least f stays none = absurd h
+  recovers known (NotEmpty device length) h catalogue history least f stays none = absurd h
+  recovers known InputFault h catalogue history least f stays none = absurd h
+  recovers known TooLong h catalogue history least f stays none = absurd h
+  recovers known (LogFull need) h catalogue history least f stays none = absurd h
+  recovers known (TooLarge bytes) h catalogue history least f stays none = absurd h
+
+  recovers_all : (stop : Stop) → RecoverStops limit devices sink stop → (text : List ℕ) (catalogue : CatalogueState) (history : List Txn) (least : ℕ)
+      → IfImagesKnown (λ images. StandsFor text catalogue history least images → StoredInLimit limit images → IsFaultless devices sink → IsOneOf (status_of stop) (0 ∷ 9 ∷ [])) devices.before
+  recovers_all stop h text catalogue history least = where-known Of (λ images. StandsFor text catalogue history least images → StoredInLimit limit images → IsFaultless devices sink → IsOneOf (status_of stop) (0 ∷ 9 ∷ []))
+      (λ known of stands. recovers known stop of.0 catalogue history least (of.1 stands)) devices.before (h.cause, h.stands text catalogue history least)
+    where
+      Of : Devices (Option DiskHistory) → Type 0
+      Of d = IsUnrecovered limit (record devices { before = d }) sink stop × IfImagesKnown (λ images. StandsFor text catalogue history least images → IsPrefixUnrecovered limit catalogue history least sink stop) d
+
   ends_reported : (stop : Stop) → RecoverStops limit devices sink stop → devices.after ≡ devices.before → IsReported errors (line_of stop) → RecoverEnds limit (status_of stop) devices sink errors
   ends_reported stop h same line = record {
     statuses = status stop h.cause;
     stands = λ text catalogue history least.
-        held_weaker (λ images. StandsFor text catalogue history least images → IsPrefixUnrecovered limit catalogue history least sink stop) (λ images. StandsFor text catalogue history least images → RecoversPrefix limit (status_of stop) catalogue history least devices sink)
+        images-then (λ images. StandsFor text catalogue history least images → IsPrefixUnrecovered limit catalogue history least sink stop) (λ images. StandsFor text catalogue history least images → RecoversPrefix limit (status_of stop) catalogue history least devices sink)
         (λ images f stands. stopped catalogue history least stop h.cause (f stands)) devices.before (h.stands text catalogue history least);
     done = λ zero. absurd (never_done stop zero);
     refused = λ three. refused stop (device_of stop three) h.cause line;
@@ -215,6 +225,7 @@ module _ (limit : ℕ) (devices : ObservedDevices) (sink errors : Observed) wher
     output_fault = λ seven. subst (IsUnrecovered limit devices sink) (output_of stop seven) h.cause;
     disk_fault = λ eight. subst (IsUnrecovered limit devices sink) (disk_of stop eight) h.cause;
     untouched = same;
+    complete = recovers_all stop h;
     quiet = λ other. h.quiet (λ is. other (subst (λ (s : Stop). status_of s ≡ 8) (sym is) refl));
   }
 
@@ -223,7 +234,7 @@ module _ (limit : ℕ) (devices : ObservedDevices) (sink errors : Observed) wher
   no_line stop memory h = record {
     cause = tt;
     stands = λ text catalogue history least.
-        held_weaker (λ images. StandsFor text catalogue history least images → IsPrefixUnrecovered limit catalogue history least sink stop) (λ images. StandsFor text catalogue history least images → Unit {0}) (λ images f stands. tt) devices.before (h.stands text catalogue history least);
+        images-then (λ images. StandsFor text catalogue history least images → IsPrefixUnrecovered limit catalogue history least sink stop) (λ images. StandsFor text catalogue history least images → Unit {0}) (λ images f stands. tt) devices.before (h.stands text catalogue history least);
     quiet = λ other. h.quiet (λ is. let no : ◌≡◌ {A = Bool} false true = subst (λ (s : Stop). IsTrue (takes_memory s)) is memory in absurd cc);
   }
 
@@ -239,7 +250,7 @@ module _ (limit : ℕ) (devices : ObservedDevices) (sink errors : Observed) wher
   recover-done h same = record {
     statuses = refl;
     stands = λ text catalogue history least.
-        held_weaker (λ images. StandsFor text catalogue history least images → IsDumpOfPrefix limit catalogue history least (IsTaken sink)) (λ images. StandsFor text catalogue history least images → RecoversPrefix limit 0 catalogue history least devices sink)
+        images-then (λ images. StandsFor text catalogue history least images → IsDumpOfPrefix limit catalogue history least (IsTaken sink)) (λ images. StandsFor text catalogue history least images → RecoversPrefix limit 0 catalogue history least devices sink)
         (λ images f stands. finished catalogue history least (f stands)) devices.before (h.stands text catalogue history least);
     done = λ zero. h.dump;
     refused = λ three. absurd (omega (arith, three));
@@ -248,11 +259,13 @@ module _ (limit : ℕ) (devices : ObservedDevices) (sink errors : Observed) wher
     output_fault = λ seven. absurd (omega (arith, seven));
     disk_fault = λ eight. absurd (omega (arith, eight));
     untouched = same;
+    complete = λ text catalogue history least.
+        images-any (λ images. StandsFor text catalogue history least images → StoredInLimit limit images → IsFaultless devices sink → IsOneOf 0 (0 ∷ 9 ∷ [])) (λ images stands stays none. refl) devices.before;
     quiet = λ other. h.quiet;
   }
 
 -- ---- running out of memory has no cause
 
 -- devices that are not called
-abbrev pub uncalled : Option DiskHistory → Option DiskHistory → Option DiskHistory → Devices ℕ → ObservedDevices
-uncalled log a b faults = record { before = three log a b; after = three log a b; faults_before = faults; faults_after = faults }
+abbrev pub uncalled : Devices (Option DiskHistory) → Devices ℕ → ObservedDevices
+uncalled known faults = record { before = known; after = known; faults_before = faults; faults_after = faults }

@@ -1,15 +1,19 @@
 -- Why a run stops, and how the command ends by the stop that is reported.
-use Rattle.std.proofs.Common.{◌≡◌, ◌≢◌, ◌⊎◌, ℕ, Bool, true, false, List, [], ◌∷◌, take, Option, Some, None, Result, Ok, Err, inl, inr, refl, sym, ap, subst, ◌∙◌, arith}
-use Rattle.std.specs.Prelude.{IsTrue}
+use Rattle.std.proofs.Common.{◌≡◌, ◌≢◌, ◌⊎◌, ℕ, Bool, true, false, List, [], ◌∷◌, ◌++◌, ◌≤◌, ◌+◌, length, take, Option, Some, None, Result, Ok, Err, inl, inr, refl, sym, ap, subst, ◌∙◌, arith}
+use Rattle.std.specs.Prelude.{IsSomeAnd, IsTrue}
+use Rattle.std.specs.Io.KnownBytes.{prepend_known}
+use Rattle.std.specs.List.{AllByRecursion}
+use Rattle.std.proofs.lemmas.List.{length-append}
 use Rattle.std.proofs.Math.Seq.{take-nil}
 use Rattle.pac_ops.specs.declared.transaction.Txn.{Txn}
-use Rattle.pac_outside.specs.Devices.{OneFaulted}
+use Rattle.pac_outside.specs.Devices.{OneFaulted, each}
 use Rattle.pac_outside.specs.Disk.{DiskHistory}
+use Rattle.pac_outside.specs.Parts.{reads_of}
 use Rattle.pac_outside.specs.declared.devices.Devices.{Devices}
-use Rattle.pac_outside.proofs.Runs.{three}
 use Rattle.pac_types.specs.Typing.{CatalogueState}
-use Rattle.pac_store.specs.Images.{Images, IfReadKnown}
+use Rattle.pac_store.specs.Images.{IfImagesKnown}
 use Rattle.pac_store.specs.Stands.{StandsFor}
+use Rattle.pac_store.proofs.ImageLemmas.{images-any, images-then, where-known}
 use Rattle.pac_recover.specs.declared.errors.Damage.TheVariants.{Log, Slot}
 use Rattle.pac_recover.specs.declared.errors.LoadError.TheVariants as load
 use Rattle.pac_recover.specs.declared.errors.RecoverError.{RecoverError}
@@ -17,22 +21,26 @@ use Rattle.pac_recover.specs.declared.errors.RecoverError.TheVariants as recover
 use Rattle.pac_recover.specs.Recovering.{IsPrefixOverLimit}
 use Rattle.pac_recover.specs.Refusals.{AreRefused}
 use Rattle.pac_recover.proofs.StandsLemmas.{is-store, no-abort, no-log-damage, no-slot-damage, over-prefix}
+use Rattle.pac_session.specs.Groups.{Group}
 use Rattle.pac_session.specs.Session.{Rules, SessionState}
+use Rattle.pac_engine.specs.Closing.{GroupFits}
 use Rattle.pac_request.specs.declared.request.Request.{Request}
 use Rattle.pac_request.specs.declared.request.Reply.{Reply}
 use Rattle.pac_run.specs.Run.{IsRun}
-use Rattle.pac_run.specs.Stopping.{DeviceFailed, IsStopped, RefusesStore}
+use Rattle.pac_run.specs.declared.limits.TheConstants.{MAX_INPUT}
+use Rattle.pac_run.specs.Stopping.{DeviceFailed, IsStopped, RefusesStore, closed_groups}
 use Rattle.pac_run.specs.Texts.{IsTextPrefix, texts}
 use Rattle.pac_run.specs.declared.stop.RunStop.{RunStop}
 use Rattle.pac_run.specs.declared.stop.RunStop.TheVariants as run
 use Rattle.pac_main.specs.Causes.{RunCause}
-use Rattle.pac_main.specs.Recover.{IsRefusedStore}
-use Rattle.pac_main.specs.Run.{LeavesStore, RunEnds, RunsOnPrefix}
+use Rattle.pac_main.specs.Recover.{IsRefusedStore, StoredInLimit}
+use Rattle.pac_main.specs.Run.{HaveRoom, LeavesStore, RunEnds, RunsOnPrefix}
 use Rattle.pac_main.specs.Stop.{line_of, status_of, stop_of_recover, stop_of_run, takes_memory}
-use Rattle.pac_main.specs.Streams.{AnyFaulted, IsOneOf, IsReported, Observed, ObservedDevices}
+use Rattle.pac_main.specs.Streams.{AnyFaulted, IsFaultless, IsOneOf, IsReported, Observed, ObservedDevices}
 use Rattle.pac_main.specs.declared.stop.Stop.{Stop}
 use Rattle.pac_main.specs.declared.stop.Stop.TheVariants as stop
 use Rattle.pac_main.proofs.IdleLemmas.{idle-run, no_memory}
+use Rattle.pac_main.proofs.InputLemmas.{some_is}
 use Rattle.pac_main.proofs.RecoverLemmas.{uncalled}
 use Rattle.pac_main.proofs.RunStatusLemmas.{RunDamage, run_aborted_of, run_disk_of, run_full_of, run_input_of, run_large_of, run_long_of, run_never_done, run_output_of, run_over_of, run_refused_of}
 use Rattle.pac_main.proofs.StopLemmas.{Reported}
@@ -43,16 +51,16 @@ use Rattle.pac_main.proofs.StopLemmas.{Reported}
 abbrev pub IsStop : RunStop → RunStop → Type 0
 IsStop why other = ◌≡◌ {A = Result (Unit {0}) RunStop} (Err why) (Err other)
 
-module _ (limit : ℕ) (source sink : Observed) (log a b : Option DiskHistory) (was is : Devices ℕ) where
+module _ (limit : ℕ) (source sink : Observed) (before : Devices (Option DiskHistory)) (was is : Devices ℕ) where
   -- what a run says with its stop
   pub record ReportsStop (why : RunStop) : Type 0 where
-    pub refused : (error : RecoverError) → IsStop why (run.Opening error) → AreRefused limit (three log a b) error
+    pub refused : (error : RecoverError) → IsStop why (run.Opening error) → AreRefused limit before error
     pub input_fault : IsStop why run.InputFault → AnyFaulted source
     pub output_fault : IsStop why run.OutputFault → AnyFaulted sink
     pub disk_fault : DeviceFailed why → OneFaulted was is
 
   module _ (after : Devices (Option DiskHistory)) where
-    pub run-cause : (why : RunStop) → ReportsStop why → RunCause limit source sink (record { before = three log a b; after = after; faults_before = was; faults_after = is }) why
+    pub run-cause : (why : RunStop) → ReportsStop why → RunCause limit source sink (record { before = before; after = after; faults_before = was; faults_after = is }) why
     run-cause (run.Opening error) h = (h.refused error refl, h.disk_fault)
     run-cause run.InputFault h = h.input_fault refl
     run-cause run.OutputFault h = h.output_fault refl
@@ -73,46 +81,30 @@ IsPrefixStop limit catalogue history least (run.Opening (recover.RowsOver name r
 IsPrefixStop limit catalogue history least _ = Unit {0}
 
 module _ (limit : ℕ) (source sink : Observed) (after : Devices (Option DiskHistory)) (was is : Devices ℕ) (text : List ℕ) (catalogue : CatalogueState) (history : List Txn) (least : ℕ) where
-  abbrev held_by : Option DiskHistory → Option DiskHistory → Option DiskHistory → ObservedDevices
-  held_by log a b = record { before = three log a b; after = after; faults_before = was; faults_after = is }
+  abbrev held_by : Devices (Option DiskHistory) → ObservedDevices
+  held_by before = record { before = before; after = after; faults_before = was; faults_after = is }
 
-  prefix_here : (l x y : DiskHistory) (why : RunStop) → RunCause limit source sink (held_by (Some l) (Some x) (Some y)) why
-      → StandsFor text catalogue history least (record { log = l.now.seen; slot_a = x.now.seen; slot_b = y.now.seen }) → IsPrefixStop limit catalogue history least why
-  prefix_here l x y (run.Opening (recover.Load load.NoStore)) h stands = is-store text catalogue history least (record { log = l.now.seen; slot_a = x.now.seen; slot_b = y.now.seen }) stands h.0
-  prefix_here l x y (run.Opening (recover.Load (load.Damaged (Log at kind)))) h stands = no-log-damage text catalogue history least (record { log = l.now.seen; slot_a = x.now.seen; slot_b = y.now.seen }) stands at kind h.0
-  prefix_here l x y (run.Opening (recover.Load (load.Damaged (Slot slot at kind)))) h stands = no-slot-damage text catalogue history least (record { log = l.now.seen; slot_a = x.now.seen; slot_b = y.now.seen }) stands slot at kind h.0
-  prefix_here l x y (run.Opening (recover.Load load.DiskFault)) h stands = tt
-  prefix_here l x y (run.Opening (recover.Load load.NoMemory)) h stands = tt
-  prefix_here l x y (run.Opening (recover.AbortInLog note)) h stands = no-abort text catalogue history least (record { log = l.now.seen; slot_a = x.now.seen; slot_b = y.now.seen }) stands note h.0
-  prefix_here l x y (run.Opening (recover.RowsOver name rows most)) h stands = over-prefix text catalogue history least (record { log = l.now.seen; slot_a = x.now.seen; slot_b = y.now.seen }) stands name rows limit h.0.1
-  prefix_here l x y run.InputFault h stands = tt
-  prefix_here l x y run.OutputFault h stands = tt
-  prefix_here l x y run.DiskFault h stands = tt
-  prefix_here l x y run.NoMemory h stands = tt
-  prefix_here l x y (run.LogFull need) h stands = tt
-  prefix_here l x y run.TooLong h stands = tt
-  prefix_here l x y (run.TooLarge bytes) h stands = tt
+  prefix_here : (known : Devices DiskHistory) (why : RunStop) → RunCause limit source sink (held_by (each Some known)) why → StandsFor text catalogue history least (reads_of known) → IsPrefixStop limit catalogue history least why
+  prefix_here known (run.Opening (recover.Load load.NoStore)) h stands = is-store text catalogue history least (reads_of known) stands h.0
+  prefix_here known (run.Opening (recover.Load (load.Damaged (Log at kind)))) h stands = no-log-damage text catalogue history least (reads_of known) stands at kind h.0
+  prefix_here known (run.Opening (recover.Load (load.Damaged (Slot slot at kind)))) h stands = no-slot-damage text catalogue history least (reads_of known) stands slot at kind h.0
+  prefix_here known (run.Opening (recover.Load load.DiskFault)) h stands = tt
+  prefix_here known (run.Opening (recover.Load load.NoMemory)) h stands = tt
+  prefix_here known (run.Opening (recover.AbortInLog note)) h stands = no-abort text catalogue history least (reads_of known) stands note h.0
+  prefix_here known (run.Opening (recover.RowsOver name rows most)) h stands = over-prefix text catalogue history least (reads_of known) stands name rows limit h.0.1
+  prefix_here known run.InputFault h stands = tt
+  prefix_here known run.OutputFault h stands = tt
+  prefix_here known run.DiskFault h stands = tt
+  prefix_here known run.NoMemory h stands = tt
+  prefix_here known (run.LogFull need) h stands = tt
+  prefix_here known run.TooLong h stands = tt
+  prefix_here known (run.TooLarge bytes) h stands = tt
 
-  pub run-prefix : (log a b : Option DiskHistory) (why : RunStop) → RunCause limit source sink (held_by log a b) why
-      → IfReadKnown (λ images. StandsFor text catalogue history least images → IsPrefixStop limit catalogue history least why) log a b
-  run-prefix None a b why h = tt
-  run-prefix (Some l) None b why h = tt
-  run-prefix (Some l) (Some x) None why h = tt
-  run-prefix (Some l) (Some x) (Some y) why h = prefix_here l x y why h
+  pub run-prefix : (before : Devices (Option DiskHistory)) (why : RunStop) → RunCause limit source sink (held_by before) why
+      → IfImagesKnown (λ images. StandsFor text catalogue history least images → IsPrefixStop limit catalogue history least why) before
+  run-prefix before why = where-known (λ d. RunCause limit source sink (held_by d) why) (λ images. StandsFor text catalogue history least images → IsPrefixStop limit catalogue history least why) (λ known. prefix_here known why) before
 
 -- ---- how the command ends
-
-read_then : (P Q : Images → Type 0) → ((images : Images) → P images → Q images) → (log a b : Option DiskHistory) → IfReadKnown P log a b → IfReadKnown Q log a b
-read_then P Q f None a b h = tt
-read_then P Q f (Some l) None b h = tt
-read_then P Q f (Some l) (Some x) None h = tt
-read_then P Q f (Some l) (Some x) (Some y) h = f _ h
-
-read_any : (P : Images → Type 0) → ((images : Images) → P images) → (log a b : Option DiskHistory) → IfReadKnown P log a b
-read_any P f None a b = tt
-read_any P f (Some l) None b = tt
-read_any P f (Some l) (Some x) None = tt
-read_any P f (Some l) (Some x) (Some y) = f _
 
 -- a status that no stored cause has
 other_prefix : (limit n : ℕ) (catalogue : CatalogueState) (history : List Txn) (least : ℕ) → n ≢ 3 → n ≢ 4 → n ≢ 5 → RunsOnPrefix limit n catalogue history least
@@ -201,9 +193,9 @@ none_given rules place start requests given (run.LogFull need) early (inr at) = 
 none_given rules place start requests given run.TooLong early (inr at) = let no : ◌≡◌ {A = Bool} false true = early in absurd cc
 none_given rules place start requests given (run.TooLarge bytes) early (inr at) = let no : ◌≡◌ {A = Bool} false true = early in absurd cc
 
-module _ (group_size limit : ℕ) (source sink errors : Observed) (log a b : Option DiskHistory) (after : Devices (Option DiskHistory)) (was is : Devices ℕ) where
+module _ (group_size limit : ℕ) (source sink errors : Observed) (before after : Devices (Option DiskHistory)) (was is : Devices ℕ) where
   abbrev devices : ObservedDevices
-  devices = record { before = three log a b; after = after; faults_before = was; faults_after = is }
+  devices = record { before = before; after = after; faults_before = was; faults_after = is }
 
   abbrev Ran : Result (Unit {0}) RunStop → Type 0
   Ran end = IsRun group_size limit source.before source.after sink.before sink.after devices.before devices.after (AnyFaulted sink) end
@@ -239,14 +231,77 @@ module _ (group_size limit : ℕ) (source sink errors : Observed) (log a b : Opt
   abbrev Left : RunStop → Type 0
   Left why = RefusesStore why → LeavesStore source sink devices
 
+  abbrev Short : List ℕ → Type 0
+  Short text = length text ≤ MAX_INPUT
+
+  -- of these groups each fits the log
+  each_fits : (groups before rest : List Group) (group : Group) → groups ≡ before ++ group ∷ rest → AllByRecursion GroupFits groups → GroupFits group
+  each_fits groups before rest group split fit = go before (subst (λ (g : List Group). AllByRecursion GroupFits g) split fit)
+    where
+      go : (before : List Group) → AllByRecursion GroupFits (before ++ group ∷ rest) → GroupFits group
+      go [] fit = fit.0
+      go (one ∷ more) fit = go more fit.1
+
+  -- an input that isn't too long doesn't stop the run
+  not_long : (left' : Option (List ℕ)) (text taken : List ℕ) → length text ≤ MAX_INPUT → length taken ≡ MAX_INPUT + 1 → Some text ≡ prepend_known taken left' → ⊥
+  not_long None text taken short more gave = absurd cc
+  not_long (Some rest) text taken short more gave = let is : text ≡ taken ++ rest = cc in omega (arith, short, more, ap (λ (l : List ℕ). length l) is, length-append taken rest)
+
+  module _ (text : List ℕ) (catalogue : CatalogueState) (history : List Txn) (least : ℕ) (known : Devices DiskHistory) where
+    -- nothing stops the run but running out of memory
+    runs_on : (why : RunStop) → RunCause limit source sink (record devices { before = each Some known }) why → IsPrefixStop limit catalogue history least why → (ran : Ran (Err why)) → StoredInLimit limit (reads_of known) → IsFaultless devices sink → (AnyFaulted source → ⊥)
+        → HaveRoom ran.rules ran.place ran.start ran.requests → IsSomeAnd source.before Short → IsOneOf (status_of (stop_of_run why)) (0 ∷ 9 ∷ [])
+    runs_on (run.Opening (recover.Load load.NoStore)) h f ran stays none reads room short = absurd f
+    runs_on (run.Opening (recover.Load (load.Damaged damage))) h f ran stays none reads room short = absurd f
+    runs_on (run.Opening (recover.Load load.DiskFault)) h f ran stays none reads room short = absurd (none.0 (h.1 refl))
+    runs_on (run.Opening (recover.Load load.NoMemory)) h f ran stays none reads room short = refl
+    runs_on (run.Opening (recover.AbortInLog note)) h f ran stays none reads room short = absurd f
+    runs_on (run.Opening (recover.RowsOver name rows most)) h f ran stays none reads room short = absurd (stays name rows h.0.1)
+    runs_on run.InputFault h f ran stays none reads room short = absurd (reads h)
+    runs_on run.OutputFault h f ran stays none reads room short = absurd (none.1 h)
+    runs_on run.DiskFault h f ran stays none reads room short = absurd (none.0 h)
+    runs_on run.NoMemory h f ran stays none reads room short = refl
+    runs_on (run.LogFull need) h f ran stays none reads room short = absurd (no_room ran.stopped)
+      where
+        no_room : IsStopped ran.rules ran.place ran.start ran.requests ran.given (run.LogFull need) → ⊥
+        no_room (inl opening) = let no : run.LogFull need ≡ run.Opening opening.0.0 = opening.0.1 in absurd cc
+        no_room (inr at) = let fits = each_fits (closed_groups ran.rules ran.place ran.start ran.requests) at.before at.rest at.group at.split room.log at.here.some in omega (arith, fits, at.here.over)
+    runs_on run.TooLong h f ran stays none reads room short =
+        let given = some_is Short source.before short in
+        let long = ran.long refl in
+        absurd (not_long source.after given.0 long.bytes given.2 long.more (sym given.1 ∙ long.gave))
+    runs_on (run.TooLarge bytes) h f ran stays none reads room short = absurd (no_room ran.stopped)
+      where
+        no_room : IsStopped ran.rules ran.place ran.start ran.requests ran.given (run.TooLarge bytes) → ⊥
+        no_room (inl opening) = let no : run.TooLarge bytes ≡ run.Opening opening.0.0 = opening.0.1 in absurd cc
+        no_room (inr at) = room.slots bytes ran.given at
+
+  runs_all : (why : RunStop) → Cause why → (ran : Ran (Err why)) → (text : List ℕ) (catalogue : CatalogueState) (history : List Txn) (least : ℕ)
+      → IfImagesKnown (λ images. StandsFor text catalogue history least images → StoredInLimit limit images → IsFaultless devices sink → (AnyFaulted source → ⊥)
+      → HaveRoom ran.rules ran.place ran.start ran.requests → IsSomeAnd source.before Short → IsOneOf (status_of (stop_of_run why)) (0 ∷ 9 ∷ [])) before
+  runs_all why h ran text catalogue history least = where-known Of (λ images. StandsFor text catalogue history least images → StoredInLimit limit images → IsFaultless devices sink → (AnyFaulted source → ⊥)
+      → HaveRoom ran.rules ran.place ran.start ran.requests → IsSomeAnd source.before Short → IsOneOf (status_of (stop_of_run why)) (0 ∷ 9 ∷ []))
+      (λ known of stands. runs_on text catalogue history least known why of.0 (of.1 stands) ran) before (h, run-prefix limit source sink after was is text catalogue history least before why h)
+    where
+      Of : Devices (Option DiskHistory) → Type 0
+      Of d = RunCause limit source sink (record devices { before = d }) why × IfImagesKnown (λ images. StandsFor text catalogue history least images → IsPrefixStop limit catalogue history least why) d
+
+  -- the status is one of those
+  ends_well : (n : ℕ) (rules : Rules) (place : ℕ) (start : SessionState) (requests : List Request) → IsOneOf n (0 ∷ 9 ∷ []) → (text : List ℕ) (catalogue : CatalogueState) (history : List Txn) (least : ℕ)
+      → IfImagesKnown (λ images. StandsFor text catalogue history least images → StoredInLimit limit images → IsFaultless devices sink → (AnyFaulted source → ⊥)
+      → HaveRoom rules place start requests → IsSomeAnd source.before Short → IsOneOf n (0 ∷ 9 ∷ [])) before
+  ends_well n rules place start requests one text catalogue history least =
+      images-any (λ images. StandsFor text catalogue history least images → StoredInLimit limit images → IsFaultless devices sink → (AnyFaulted source → ⊥) → HaveRoom rules place start requests → IsSomeAnd source.before Short → IsOneOf n (0 ∷ 9 ∷ []))
+      (λ images stands stays none reads room short. one) before
+
   itself : (why : RunStop) → Ran (Err why) → Cause why → LineReported why → Left why → Quiet why → RunEnds group_size limit (status_of (stop_of_run why)) source sink errors devices
   itself why ran h line left quiet = record {
     statuses = run_status why;
     end = Err why;
     is = ran;
     stands = λ text catalogue history least.
-        read_then (λ images. StandsFor text catalogue history least images → IsPrefixStop limit catalogue history least why) (λ images. StandsFor text catalogue history least images → RunsOnPrefix limit (status_of (stop_of_run why)) catalogue history least)
-        (λ images f stands. prefix_of limit catalogue history least why (f stands)) log a b (run-prefix limit source sink after was is text catalogue history least log a b why h);
+        images-then (λ images. StandsFor text catalogue history least images → IsPrefixStop limit catalogue history least why) (λ images. StandsFor text catalogue history least images → RunsOnPrefix limit (status_of (stop_of_run why)) catalogue history least)
+        (λ images f stands. prefix_of limit catalogue history least why (f stands)) before (run-prefix limit source sink after was is text catalogue history least before why h);
     done = λ zero. absurd (run_never_done why zero);
     refused = λ three. (refuses_of why (subst (λ (m : ℕ). IsOneOf m (3 ∷ 4 ∷ 5 ∷ [])) (sym three) refl), refused why (run_refused_of why three) h line);
     aborted = λ four. let t = run_aborted_of why four in (t.note, end_is why (run.Opening (recover.AbortInLog t.note)) t.is, (subst Cause t.is h).0, subst LineReported t.is line);
@@ -263,6 +318,7 @@ module _ (group_size limit : ℕ) (source sink errors : Observed) (log a b : Opt
     too_large = λ twelve. let t = run_large_of why twelve in (t.bytes, end_is why (run.TooLarge t.bytes) t.is, subst LineReported t.is line);
     untouched = λ early. left (refuses_of why early);
     quiet = λ eight. quiet (λ e. eight (disk_status why e));
+    complete = runs_all why h ran;
   }
 
   -- running out of memory has no cause
@@ -272,8 +328,8 @@ module _ (group_size limit : ℕ) (source sink errors : Observed) (log a b : Opt
     end = end;
     is = ran;
     stands = λ text catalogue history least.
-        read_any (λ images. StandsFor text catalogue history least images → RunsOnPrefix limit n catalogue history least)
-        (λ images stands. other_prefix limit n catalogue history least (λ e. absurd (omega (arith, nine, e))) (λ e. absurd (omega (arith, nine, e))) (λ e. absurd (omega (arith, nine, e)))) log a b;
+        images-any (λ images. StandsFor text catalogue history least images → RunsOnPrefix limit n catalogue history least)
+        (λ images stands. other_prefix limit n catalogue history least (λ e. absurd (omega (arith, nine, e))) (λ e. absurd (omega (arith, nine, e))) (λ e. absurd (omega (arith, nine, e)))) before;
     done = λ e. absurd (omega (arith, nine, e));
     refused = λ e. absurd (omega (arith, nine, e));
     aborted = λ e. absurd (omega (arith, nine, e));
@@ -287,6 +343,7 @@ module _ (group_size limit : ℕ) (source sink errors : Observed) (log a b : Opt
     too_large = λ e. absurd (omega (arith, nine, e));
     untouched = λ early. let no : ◌≡◌ {A = Bool} false true = subst (λ (m : ℕ). IsOneOf m (3 ∷ 4 ∷ 5 ∷ [])) nine early in absurd cc;
     quiet = λ eight. quiet;
+    complete = ends_well n ran.rules ran.place ran.start ran.requests (subst (λ (m : ℕ). IsOneOf m (0 ∷ 9 ∷ [])) (sym nine) refl);
   }
 
   pub run-ends : (why : RunStop) (reported : Stop) (n : ℕ) → n ≡ status_of reported → Reported (stop_of_run why) reported → Ran (Err why) → Cause why → IsReported errors (line_of reported) → Left why → Quiet why → RunEnds group_size limit n source sink errors devices
@@ -300,8 +357,8 @@ module _ (group_size limit : ℕ) (source sink errors : Observed) (log a b : Opt
     end = Ok tt;
     is = ran;
     stands = λ text catalogue history least.
-        read_any (λ images. StandsFor text catalogue history least images → RunsOnPrefix limit 0 catalogue history least)
-        (λ images stands. other_prefix limit 0 catalogue history least (λ e. absurd (omega (arith, e))) (λ e. absurd (omega (arith, e))) (λ e. absurd (omega (arith, e)))) log a b;
+        images-any (λ images. StandsFor text catalogue history least images → RunsOnPrefix limit 0 catalogue history least)
+        (λ images stands. other_prefix limit 0 catalogue history least (λ e. absurd (omega (arith, e))) (λ e. absurd (omega (arith, e))) (λ e. absurd (omega (arith, e)))) before;
     done = λ e. refl;
     refused = λ e. absurd (omega (arith, e));
     aborted = λ e. absurd (omega (arith, e));
@@ -315,6 +372,7 @@ module _ (group_size limit : ℕ) (source sink errors : Observed) (log a b : Opt
     too_large = λ e. absurd (omega (arith, e));
     untouched = λ early. let no : ◌≡◌ {A = Bool} false true = early in absurd cc;
     quiet = λ eight. quiet;
+    complete = ends_well 0 ran.rules ran.place ran.start ran.requests refl;
   }
 
 -- ---- running out of memory for the arguments: no stream and no device is called
@@ -323,6 +381,6 @@ module _ (group_size limit : ℕ) (source sink errors : Observed) (log a b : Opt
 abbrev pub still : Option (List ℕ) → ℕ → Observed
 still bytes faults = record { before = bytes; after = bytes; faults_before = faults; faults_after = faults }
 
-pub run-idle : (group_size limit n : ℕ) (left held : Option (List ℕ)) (reads writes : ℕ) (log a b : Option DiskHistory) (faults : Devices ℕ) (errors : Observed) → n ≡ 9 → RunEnds group_size limit n (still left reads) (still held writes) errors (uncalled log a b faults)
-run-idle group_size limit n left held reads writes log a b faults errors nine =
-    run-memory group_size limit (still left reads) (still held writes) errors log a b (three log a b) faults faults (Err no_memory) n nine (idle-run group_size limit left held log a b (AnyFaulted (still held writes))) refl
+pub run-idle : (group_size limit n : ℕ) (left held : Option (List ℕ)) (reads writes : ℕ) (known : Devices (Option DiskHistory)) (faults : Devices ℕ) (errors : Observed) → n ≡ 9 → RunEnds group_size limit n (still left reads) (still held writes) errors (uncalled known faults)
+run-idle group_size limit n left held reads writes known faults errors nine =
+    run-memory group_size limit (still left reads) (still held writes) errors known known faults faults (Err no_memory) n nine (idle-run group_size limit left held known (AnyFaulted (still held writes))) refl

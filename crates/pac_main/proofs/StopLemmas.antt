@@ -1,20 +1,33 @@
 -- A stop has the cause of what came before it, and the command ends by the stop that is reported.
-use Rattle.std.proofs.Common.{◌≡◌, ◌⊎◌, ℕ, Bool, [], ◌∷◌, Ok, inl, inr, refl, sym, subst, arith, true, false}
-use Rattle.std.specs.Prelude.{IsTrue}
+use Rattle.std.proofs.Common.{◌≡◌, ◌∙◌, ◌⊎◌, ◌<◌, ℕ, Bool, List, [], ◌∷◌, length, Option, Some, None, Result, Ok, Err, inl, inr, refl, sym, ap, subst, arith, true, false}
+use Rattle.std.specs.Prelude.{IsSomeAnd, IsTrue}
 use Rattle.pac_value.specs.State.{Tables}
+use Rattle.pac_ops.specs.declared.note.Note.{Note}
+use Rattle.pac_outside.specs.Devices.{OnceKnown, all_known}
+use Rattle.pac_outside.specs.Disk.{DiskHistory}
+use Rattle.pac_outside.specs.declared.devices.Devices.{Devices}
+use Rattle.pac_types.specs.Execution.{first_over}
+use Rattle.pac_store.specs.Made.{AreEmpty, IsFirstInUse, IsInUse}
+use Rattle.pac_store.specs.declared.device.DeviceName.{DeviceName}
+use Rattle.pac_store.specs.declared.device.DeviceName.TheVariants.{Log, SlotA, SlotB}
 use Rattle.pac_recover.specs.Limits.{IsFirstOver}
 use Rattle.pac_recover.specs.declared.limit.TooManyRows.{TooManyRows}
+use Rattle.pac_run.specs.declared.limits.TheConstants.{MAX_INPUT}
 use Rattle.pac_script.specs.declared.script.Script.{Script}
+use Rattle.pac_script.specs.declared.script_fault.ScriptFault.{ScriptFault}
 use Rattle.pac_main.specs.Causes.{GivesNoScript, GivesNoExplanation, GivesNoText, ScriptStops, ReplayStops, ExplainStops, InitStops}
-use Rattle.pac_main.specs.Explained.{ExplainEnds}
-use Rattle.pac_main.specs.Init.{AreUntouched, InitEnds, IsAcceptedInput}
-use Rattle.pac_main.specs.Replay.{IsScriptOf, ReplayEnds, outcome}
+use Rattle.pac_main.specs.Explained.{ExplainEnds, IsTheCause, IsUnexplainedAs}
+use Rattle.pac_main.specs.Init.{AreUntouched, InitEnds, IsAcceptedInput, IsNoStoreFor, IsNoStoreText}
+use Rattle.pac_main.specs.Inputs.{IsAcceptedText}
+use Rattle.pac_main.specs.Replay.{EndsInLimit, IsAbortOf, IsLongScript, IsOverOf, IsReadAs, IsRefusedAs, IsScriptOf, ReplayEnds, first_over_in, outcome}
 use Rattle.pac_main.specs.Stop.{line_of, status_of, stop_of_excess, stop_of_input, takes_memory}
-use Rattle.pac_main.specs.Streams.{IsOneOf, IsReported, Observed, ObservedDevices}
+use Rattle.pac_main.specs.Streams.{AnyFaulted, IsFaultless, IsOneOf, IsReported, Observed, ObservedDevices}
 use Rattle.pac_main.specs.declared.input.InputError.{InputError}
 use Rattle.pac_main.specs.declared.input.InputError.TheVariants as input
 use Rattle.pac_main.specs.declared.stop.Stop.{Stop}
 use Rattle.pac_main.specs.declared.stop.Stop.TheVariants.{Usage, Script as ScriptStop, NotEmpty, NoStore, Damaged, Aborted, RowsOver, InputFault, OutputFault, DiskFault, NoMemory, LogFull, TooLong, TooLarge}
+use Rattle.pac_main.proofs.InitLemmas.{not_accepted}
+use Rattle.pac_main.proofs.InputLemmas.{some_is}
 use Rattle.pac_main.proofs.StatusLemmas.{ADeviceRefusal, AFullDevice, aborted_of, device_of, disk_of, input_of, long_of, never_done, output_of, over_of, refused_of}
 
 -- a stop is reported itself, or there was no memory for its line
@@ -67,6 +80,61 @@ module _ (limit : ℕ) (source sink : Observed) where
   replay_status (LogFull need) h = absurd h
   replay_status (TooLarge bytes) h = absurd h
 
+  -- a script that is replayed to its end, within the limit
+  module _ (text : List ℕ) (holds : EndsInLimit limit text) (is : source.before ≡ Some text) where
+    same_script : (script : Script) → IsScriptOf script source.before → script ≡ holds.script
+    same_script script reads =
+        let read : IsReadAs text (Ok script) = subst (λ (o : Option (List ℕ)). IsScriptOf script o) is reads in
+        one script holds.script (holds.is.only (Ok script) read.says)
+      where
+        one : (script other : Script) → ◌≡◌ {A = Result Script ScriptFault} (Ok script) (Ok other) → script ≡ other
+        one script other e = cc
+
+    ends_so : (script : Script) → IsScriptOf script source.before → outcome script ≡ Ok holds.tables
+    ends_so script reads = ap outcome (same_script script reads) ∙ holds.ends
+
+    no_fault : (fault : ScriptFault) → IsRefusedAs source.before fault → ⊥
+    no_fault fault refused =
+        let read : IsReadAs text (Err fault) = subst (λ (o : Option (List ℕ)). IsRefusedAs o fault) is refused in
+        let no : ◌≡◌ {A = Result Script ScriptFault} (Err fault) (Ok holds.script) = holds.is.only (Err fault) read.says in
+        absurd cc
+
+    no_abort : (note : Note) → IsAbortOf source.before note → ⊥
+    no_abort note aborts = let no : ◌≡◌ {A = Result Tables Note} (Err note) (Ok holds.tables) = sym aborts.2 ∙ ends_so aborts.0 aborts.1 in absurd cc
+
+    none_over : (name : List ℕ) (rows : ℕ) → IsOverOf limit source.before name rows → ⊥
+    none_over name rows over =
+        let tables : over.tables ≡ holds.tables = same_tables over.tables holds.tables (sym over.ends ∙ ends_so over.script over.is) in
+        let none : first_over limit (length over.script.catalogue.tables) over.tables ≡ None =
+        ap (λ (script : Script). first_over_in limit script over.tables) (same_script over.script over.is) ∙ ap (λ (t : Tables). first_over_in limit holds.script t) tables ∙ holds.within in
+        let some = over.over.1 in
+        absurd cc
+      where
+        same_tables : (t u : Tables) → ◌≡◌ {A = Result Tables Note} (Ok t) (Ok u) → t ≡ u
+        same_tables t u e = cc
+
+    not_long : IsLongScript source.before → ⊥
+    not_long long = let longer : MAX_INPUT < length text = subst (λ (o : Option (List ℕ)). IsLongScript o) is long in omega (arith, longer, holds.is.short)
+
+    replays : (stop : Stop) → ReplayStops limit source sink stop → (AnyFaulted source → ⊥) → (AnyFaulted sink → ⊥) → IsOneOf (status_of stop) (0 ∷ 9 ∷ [])
+    replays (ScriptStop fault) h reads writes = absurd (no_fault fault h)
+    replays (Aborted note) h reads writes = absurd (no_abort note h)
+    replays (RowsOver name rows most) h reads writes = absurd (none_over name rows h.0)
+    replays InputFault h reads writes = absurd (reads h)
+    replays OutputFault h reads writes = absurd (writes h.0)
+    replays TooLong h reads writes = absurd (not_long h)
+    replays NoMemory h reads writes = refl
+    replays Usage h reads writes = absurd h
+    replays (NotEmpty device length) h reads writes = absurd h
+    replays NoStore h reads writes = absurd h
+    replays (Damaged damage) h reads writes = absurd h
+    replays DiskFault h reads writes = absurd h
+    replays (LogFull need) h reads writes = absurd h
+    replays (TooLarge bytes) h reads writes = absurd h
+
+  replay_complete : (stop : Stop) → ReplayStops limit source sink stop → IsSomeAnd source.before (EndsInLimit limit) → (AnyFaulted source → ⊥) → (AnyFaulted sink → ⊥) → IsOneOf (status_of stop) (0 ∷ 9 ∷ [])
+  replay_complete stop h given = let known = some_is (EndsInLimit limit) source.before given in replays known.0 known.2 known.1 stop h
+
   ends_reported : (errors : Observed) (stop : Stop) → ReplayStops limit source sink stop → IsReported errors (line_of stop) → ReplayEnds limit (status_of stop) source sink errors
   ends_reported errors stop cause line = record {
     statuses = replay_status stop cause;
@@ -80,6 +148,7 @@ module _ (limit : ℕ) (source sink : Observed) where
     input_fault = λ six. subst (ReplayStops limit source sink) (input_of stop six) cause;
     output_fault = λ seven. subst (ReplayStops limit source sink) (output_of stop seven) cause;
     too_long = λ eleven. subst (ReplayStops limit source sink) (long_of stop eleven) cause;
+    complete = replay_complete stop cause;
   }
 
   pub replay-ends : (errors : Observed) (stop reported : Stop) (status : ℕ) → status ≡ status_of reported → Reported stop reported → ReplayStops limit source sink stop → IsReported errors (line_of reported) → ReplayEnds limit status source sink errors
@@ -115,6 +184,29 @@ module _ (with_text : Bool) (source sink : Observed) where
   explain_status (LogFull need) h = absurd h
   explain_status (TooLarge bytes) h = absurd h
 
+  -- an accepted text is explained
+  module _ (text : List ℕ) (accepted : IsAcceptedText text) (is : source.before ≡ Some text) where
+    explains : (stop : Stop) → ExplainStops with_text source sink stop → (AnyFaulted source → ⊥) → (AnyFaulted sink → ⊥) → IsOneOf (status_of stop) (0 ∷ 9 ∷ [])
+    explains (ScriptStop fault) h reads writes =
+        let cause : IsTheCause text fault = subst (λ (o : Option (List ℕ)). IsUnexplainedAs o fault) is h in
+        absurd (not_accepted text fault accepted.0 cause.is accepted.1)
+    explains InputFault h reads writes = absurd (reads h)
+    explains OutputFault h reads writes = absurd (writes h.0)
+    explains NoMemory h reads writes = refl
+    explains (NotEmpty device length) h reads writes = absurd h
+    explains NoStore h reads writes = absurd h
+    explains (Damaged damage) h reads writes = absurd h
+    explains DiskFault h reads writes = absurd h
+    explains Usage h reads writes = absurd h
+    explains (Aborted note) h reads writes = absurd h
+    explains (RowsOver name rows most) h reads writes = absurd h
+    explains TooLong h reads writes = absurd h
+    explains (LogFull need) h reads writes = absurd h
+    explains (TooLarge bytes) h reads writes = absurd h
+
+  explain_complete : (stop : Stop) → ExplainStops with_text source sink stop → IsSomeAnd source.before IsAcceptedText → (AnyFaulted source → ⊥) → (AnyFaulted sink → ⊥) → IsOneOf (status_of stop) (0 ∷ 9 ∷ [])
+  explain_complete stop h given = let known = some_is IsAcceptedText source.before given in explains known.0 known.2 known.1 stop h
+
   explained_reported : (errors : Observed) (stop : Stop) → ExplainStops with_text source sink stop → IsReported errors (line_of stop) → ExplainEnds with_text (status_of stop) source sink errors
   explained_reported errors stop cause line = record {
     statuses = explain_status stop cause;
@@ -122,6 +214,7 @@ module _ (with_text : Bool) (source sink : Observed) where
     refused = λ two. let r = refused_of stop two in (r.fault, subst (ExplainStops with_text source sink) r.is cause, subst (λ (s : Stop). IsReported errors (line_of s)) r.is line);
     input_fault = λ six. subst (ExplainStops with_text source sink) (input_of stop six) cause;
     output_fault = λ seven. subst (ExplainStops with_text source sink) (output_of stop seven) cause;
+    complete = explain_complete stop cause;
   }
 
   pub explain-ends : (errors : Observed) (stop reported : Stop) (status : ℕ) → status ≡ status_of reported → Reported stop reported → ExplainStops with_text source sink stop → IsReported errors (line_of reported) → ExplainEnds with_text status source sink errors
@@ -190,6 +283,43 @@ module _ (source : Observed) (devices : ObservedDevices) where
   full_device stop (inr (inl is)) h = absurd (subst (InitStops source devices) is h)
   full_device stop (inr (inr d)) h = absurd (subst (InitStops source devices) d.is h)
 
+  -- no device is in use where none has a byte
+  none_used : (entry : Devices DiskHistory) → AreEmpty entry → (device : DeviceName) (length : ℕ) → IsFirstInUse device length entry → ⊥
+  none_used entry empty Log length used = omega (arith, used.0, used.1, empty.0)
+  none_used entry empty SlotA length used = omega (arith, used.0, used.2, empty.1)
+  none_used entry empty SlotB length used = omega (arith, used.0, used.2, empty.2)
+
+  not_used : (entry : Devices DiskHistory) → AreEmpty entry → (device : DeviceName) (length : ℕ) → (after : Option (Devices DiskHistory)) → OnceKnown (IsInUse device length) (Some entry) after → ⊥
+  not_used entry empty device length None used = used
+  not_used entry empty device length (Some after) used = none_used entry empty device length used.0
+
+  -- a store is made of an accepted text on empty devices
+  module _ (text : List ℕ) (accepted : IsAcceptedText text) (is : source.before ≡ Some text) (entry : Devices DiskHistory) (empty : AreEmpty entry) (known : all_known devices.before ≡ Some entry) where
+    makes : (stop : Stop) → InitStops source devices stop → IsFaultless devices source → IsOneOf (status_of stop) (0 ∷ 9 ∷ [])
+    makes (ScriptStop fault) h none =
+        let refused : IsNoStoreText text fault = subst (λ (o : Option (List ℕ)). IsNoStoreFor o fault) is h.1 in
+        absurd (refused.none accepted.0 accepted.1)
+    makes (NotEmpty device length) h none =
+        absurd (not_used entry empty device length (all_known devices.after) (subst (λ (all : Option (Devices DiskHistory)). OnceKnown (IsInUse device length) all (all_known devices.after)) known h.2))
+    makes InputFault h none = absurd (none.1 h.1)
+    makes DiskFault h none = absurd (none.0 h.1)
+    makes NoMemory h none = refl
+    makes NoStore h none = absurd h
+    makes (Damaged damage) h none = absurd h
+    makes Usage h none = absurd h
+    makes (Aborted note) h none = absurd h
+    makes (RowsOver name rows most) h none = absurd h
+    makes OutputFault h none = absurd h
+    makes TooLong h none = absurd h
+    makes (LogFull need) h none = absurd h
+    makes (TooLarge bytes) h none = absurd h
+
+  init_complete : (stop : Stop) → InitStops source devices stop → IsSomeAnd source.before IsAcceptedText → IsSomeAnd (all_known devices.before) AreEmpty → IsFaultless devices source → IsOneOf (status_of stop) (0 ∷ 9 ∷ [])
+  init_complete stop h given unused =
+      let known = some_is IsAcceptedText source.before given in
+      let entry = some_is AreEmpty (all_known devices.before) unused in
+      makes known.0 known.2 known.1 entry.0 entry.2 entry.1 stop h
+
   init_reported : (errors : Observed) (stop : Stop) → InitStops source devices stop → IsReported errors (line_of stop) → InitEnds (status_of stop) source errors devices
   init_reported errors stop cause line = record {
     statuses = init_status stop cause;
@@ -201,6 +331,7 @@ module _ (source : Observed) (devices : ObservedDevices) where
     disk_fault = λ eight. (subst (InitStops source devices) (disk_of stop eight) cause).1;
     untouched = λ zero eight. init_untouched stop cause eight;
     quiet = λ zero. absurd (never_done stop zero);
+    complete = init_complete stop cause;
   }
 
   -- what was written may not be reported where there is no memory, but then nothing was: a failed device takes none

@@ -3,6 +3,7 @@ use Rattle.std.specs.Prelude.{◌≡◌, ◌≢◌, ℕ, Bool, List, Ok, Err}
 use Rattle.pac_value.specs.State.{Tables}
 use Rattle.pac_ops.specs.declared.transaction.Txn.{Txn}
 use Rattle.pac_outside.specs.Devices.{OneFaulted, IfAllKnown}
+use Rattle.pac_store.specs.Images.{IfImagesKnown}
 use Rattle.pac_store.specs.Made.{IsInUse}
 use Rattle.pac_types.specs.Typing.{CatalogueState}
 use Rattle.pac_store.specs.Stands.{StandsFor}
@@ -10,7 +11,7 @@ use Rattle.pac_recover.specs.Limits.{IsFirstOver}
 use Rattle.pac_recover.specs.Recovering.{AbortsIn, IsPrefixOverLimit, IsOverIn}
 use Rattle.pac_recover.specs.declared.errors.LoadError.TheVariants as load
 use Rattle.pac_recover.specs.declared.errors.RecoverError.TheVariants as recover
-use Rattle.pac_recover.specs.Refusals.{AreRefused, HasDamage, HasNoStore, IfImagesKnown}
+use Rattle.pac_recover.specs.Refusals.{AreRefused, HasDamage, HasNoStore}
 use Rattle.pac_script.specs.declared.script.Script.{Script}
 use Rattle.pac_run.specs.declared.stop.RunStop.{RunStop}
 use Rattle.pac_run.specs.declared.stop.RunStop.TheVariants as run

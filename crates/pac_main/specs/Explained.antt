@@ -1,5 +1,5 @@
 -- How `explain` ends.
-use Rattle.std.specs.Prelude.{◌≡◌, ℕ, Bool, List, [], ◌∷◌, ◌++◌, Option, IfSome, map, if◌then◌else◌}
+use Rattle.std.specs.Prelude.{◌≡◌, ℕ, Bool, List, [], ◌∷◌, ◌++◌, Option, IfSome, IsSomeAnd, map, if◌then◌else◌}
 use Rattle.std.specs.List.{AllZip}
 use Rattle.pac_syntax.specs.declared.tree.Tree.{Tree}
 use Rattle.pac_syntax.specs.Reading.{Reads}
@@ -20,6 +20,7 @@ use Rattle.pac_script.specs.declared.script_fault.ScriptFault.{ScriptFault}
 use Rattle.pac_script.specs.declared.script_fault.ScriptFault.TheVariants.{Catalogue, TooManyOps, Line}
 use Rattle.pac_script.specs.Script.{IsExcess, IsUnaccepted}
 use Rattle.pac_main.specs.declared.stop.Stop.TheVariants as stop
+use Rattle.pac_main.specs.Inputs.{IsAcceptedText}
 use Rattle.pac_main.specs.Streams.{Observed, AnyFaulted, IsTaken, IsPrefixTaken, IsReported, IsOneOf}
 use Rattle.pac_main.specs.Stop.{line_of}
 
@@ -90,3 +91,5 @@ pub record ExplainEnds (with_text : Bool) (status : ℕ) (input output errors : 
   pub refused : status ≡ 2 → (fault : ScriptFault) × IsUnexplainedAs input.before fault × IsReported errors (line_of (stop.Script fault))
   pub input_fault : status ≡ 6 → AnyFaulted input
   pub output_fault : status ≡ 7 → AnyFaulted output × IsExplanationOf with_text input.before (IsPrefixTaken output)
+  -- an accepted text is explained, where no fault was counted, or there was no memory
+  pub complete : IsSomeAnd input.before IsAcceptedText → ¬ AnyFaulted input → ¬ AnyFaulted output → IsOneOf status (0 ∷ 9 ∷ [])

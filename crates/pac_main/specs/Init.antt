@@ -1,19 +1,20 @@
 -- How `init` ends.
-use Rattle.std.specs.Prelude.{◌≡◌, ◌≢◌, ℕ, List, [], ◌∷◌, Option, IfSome}
-use Rattle.pac_outside.specs.Devices.{OneFaulted, IfAllKnown}
+use Rattle.std.specs.Prelude.{◌≡◌, ◌≢◌, ℕ, List, [], ◌∷◌, Option, IfSome, IsSomeAnd}
+use Rattle.pac_outside.specs.Devices.{OneFaulted, IfAllKnown, all_known}
 use Rattle.pac_types.specs.Typing.{CatalogueState}
 use Rattle.pac_types.specs.Accepted.{IsAccepted}
-use Rattle.pac_store.specs.Made.{IsInUse, MakesStore}
+use Rattle.pac_store.specs.Made.{AreEmpty, IsInUse, MakesStore}
 use Rattle.pac_store.specs.declared.device.DeviceName.{DeviceName}
 use Rattle.pac_script.specs.declared.script_fault.ScriptFault.{ScriptFault}
 use Rattle.pac_main.specs.declared.stop.Stop.TheVariants as stop
 use Rattle.pac_script.specs.Script.{IsUnaccepted}
-use Rattle.pac_main.specs.Streams.{Observed, ObservedDevices, AnyFaulted, IsReported, IsOneOf}
+use Rattle.pac_main.specs.Inputs.{IsAcceptedText}
+use Rattle.pac_main.specs.Streams.{Observed, ObservedDevices, AnyFaulted, IsFaultless, IsReported, IsOneOf}
 use Rattle.pac_main.specs.Stop.{line_of, not_empty_line}
 
 -- a store can be made of the text, and the input is this text where the source's bytes are known
 abbrev pub IsStoreText : List ℕ → Option (List ℕ) → Type 0
-IsStoreText text input = ((catalogue : CatalogueState) × IsAccepted text catalogue) × IfSome input (λ whole. whole ≡ text)
+IsStoreText text input = IsAcceptedText text × IfSome input (λ whole. whole ≡ text)
 
 -- a store can be made of the input
 abbrev pub IsAcceptedInput : Option (List ℕ) → Type 0
@@ -50,3 +51,5 @@ pub record InitEnds (status : ℕ) (input errors : Observed) (devices : Observed
   pub disk_fault : status ≡ 8 → OneFaulted devices.faults_before devices.faults_after
   pub untouched : status ≢ 0 → status ≢ 8 → AreUntouched devices
   pub quiet : status ≡ 0 → devices.faults_after ≡ devices.faults_before
+  -- a store is made of an accepted text on empty devices, where no fault was counted, or there was no memory
+  pub complete : IsSomeAnd input.before IsAcceptedText → IsSomeAnd (all_known devices.before) AreEmpty → IsFaultless devices input → IsOneOf status (0 ∷ 9 ∷ [])

@@ -8,13 +8,14 @@ use Rattle.pac_outside.specs.Disk.{DiskHistory}
 use Rattle.pac_outside.specs.declared.devices.Devices.{Devices}
 use Rattle.pac_types.specs.Execution.{first_over}
 use Rattle.pac_types.specs.Typing.{CatalogueState}
+use Rattle.pac_store.specs.Images.{Images, IfImagesKnown}
 use Rattle.pac_store.specs.Stands.{EndsWith, StandsFor}
 use Rattle.pac_recover.specs.declared.errors.Damage.{Damage}
 use Rattle.pac_recover.specs.Recovering.{AbortsIn, IsPrefixOverLimit, IsOverIn, IsRecoveredFrom}
-use Rattle.pac_recover.specs.Refusals.{HasDamage, HasNoStore, IfImagesKnown}
+use Rattle.pac_recover.specs.Refusals.{HasDamage, HasNoStore}
 use Rattle.pac_report.specs.Dump.{tables_text}
 use Rattle.pac_main.specs.Stop.{abort_line, damaged_line, rows_line}
-use Rattle.pac_main.specs.Streams.{Observed, ObservedDevices, AnyFaulted, IsTaken, IsPrefixTaken, IsReported, IsOneOf}
+use Rattle.pac_main.specs.Streams.{Observed, ObservedDevices, AnyFaulted, IsFaultless, IsTaken, IsPrefixTaken, IsReported, IsOneOf}
 
 -- These tables of this catalogue are within the limit, and their dump has this property. Where the devices' histories are known, they are
 -- those with which serial execution of what is stored ends.
@@ -47,10 +48,6 @@ pub record IsDumpOfPrefix (limit : ℕ) (catalogue : CatalogueState) (history : 
 abbrev pub StaysInLimit : ℕ → CatalogueState → List Txn → ℕ → Type 0
 StaysInLimit limit catalogue history least = (tables : Tables) → AreOfPrefix catalogue history least tables → first_over limit (length catalogue.tables) tables ≡ None
 
--- no fault was counted: it isn't so that the count of exactly one device rose by one, nor that of the output did
-abbrev pub IsFaultless : ObservedDevices → Observed → Type 0
-IsFaultless devices output = ¬ OneFaulted devices.faults_before devices.faults_after × ¬ AnyFaulted output
-
 -- How `recover` ends on devices that stand for a history of at least that many transactions. The output takes the dump of
 -- the tables that serial execution gives for a prefix of the history with at least that many, or an outside fault rose, a
 -- table is over the limit, or there was no memory. Nothing is damaged, and nothing aborts.
@@ -68,6 +65,10 @@ pub record RecoversPrefix (limit status : ℕ) (catalogue : CatalogueState) (his
 abbrev pub IsRefusedStore : Devices (Option DiskHistory) → Observed → Type 0
 IsRefusedStore devices errors = (HasNoStore devices × IsReported errors (codes "no store\n")) ⊎ ((damage : Damage) × HasDamage damage devices × IsReported errors (damaged_line damage))
 
+-- after all that is stored in these images no table has more rows than the limit
+abbrev pub StoredInLimit : ℕ → Images → Type 0
+StoredInLimit limit images = (name : List ℕ) (rows : ℕ) → ¬ IsOverIn name rows limit images
+
 -- how `recover` ends under a limit of rows: the statuses that it may have, and a line for each that has a cause; the devices
 -- are only read
 pub record RecoverEnds (limit status : ℕ) (devices : ObservedDevices) (output errors : Observed) : Type 0 where
@@ -81,4 +82,8 @@ pub record RecoverEnds (limit status : ℕ) (devices : ObservedDevices) (output 
   pub output_fault : status ≡ 7 → AnyFaulted output × IsRecovery limit devices.before (IsPrefixTaken output)
   pub disk_fault : status ≡ 8 → OneFaulted devices.faults_before devices.faults_after
   pub untouched : devices.after ≡ devices.before
+  -- on devices that stand for a history, whose tables stay within the limit, where no fault was counted, they are recovered, or
+  -- there was no memory
+  pub complete : (text : List ℕ) (catalogue : CatalogueState) (history : List Txn) (least : ℕ)
+      → IfImagesKnown (λ images. StandsFor text catalogue history least images → StoredInLimit limit images → IsFaultless devices output → IsOneOf status (0 ∷ 9 ∷ [])) devices.before
   pub quiet : status ≢ 8 → devices.faults_after ≡ devices.faults_before

@@ -1,5 +1,5 @@
 -- How `replay` ends.
-use Rattle.std.specs.Prelude.{◌≡◌, ◌≤◌, ◌<◌, ℕ, List, [], ◌∷◌, length, Option, None, IfSome, Result, Ok, Err}
+use Rattle.std.specs.Prelude.{◌≡◌, ◌≤◌, ◌<◌, ℕ, List, [], ◌∷◌, length, Option, None, IfSome, IsSomeAnd, Result, Ok, Err}
 use Rattle.std.specs.FinMap.{empty}
 use Rattle.pac_value.specs.State.{Tables}
 use Rattle.pac_ops.specs.declared.note.Note.{Note}
@@ -81,6 +81,14 @@ pub record IsOverOf (limit : ℕ) (input : Option (List ℕ)) (name : List ℕ) 
   pub ends : outcome script ≡ Ok tables
   pub over : IsFirstOver limit script.catalogue.tables tables name rows
 
+-- the text is a script whose transactions end with tables within the limit
+pub record EndsInLimit (limit : ℕ) (text : List ℕ) : Type 0 where
+  pub script : Script
+  pub tables : Tables
+  pub is : IsReadAs text (Ok script)
+  pub ends : outcome script ≡ Ok tables
+  pub within : first_over_in limit script tables ≡ None
+
 -- how `replay` ends under a limit of rows: the statuses that it may have, and a line for each that has a cause
 pub record ReplayEnds (limit status : ℕ) (input output errors : Observed) : Type 0 where
   pub statuses : IsOneOf status (0 ∷ 2 ∷ 4 ∷ 5 ∷ 6 ∷ 7 ∷ 9 ∷ 11 ∷ [])
@@ -91,3 +99,5 @@ pub record ReplayEnds (limit status : ℕ) (input output errors : Observed) : Ty
   pub input_fault : status ≡ 6 → AnyFaulted input
   pub output_fault : status ≡ 7 → AnyFaulted output × IsDumpOf limit input.before (IsPrefixTaken output)
   pub too_long : status ≡ 11 → IsLongScript input.before
+  -- such a script is replayed, where no fault was counted, or there was no memory
+  pub complete : IsSomeAnd input.before (EndsInLimit limit) → ¬ AnyFaulted input → ¬ AnyFaulted output → IsOneOf status (0 ∷ 9 ∷ [])

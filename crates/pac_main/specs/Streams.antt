@@ -3,7 +3,7 @@ use Rattle.std.specs.Prelude.{◌⊎◌, ◌==◌, ℕ, List, Option, IsTrue}
 use Rattle.std.specs.List.{list_any}
 use Rattle.pac_outside.specs.Causes.{Faulted}
 use Rattle.pac_outside.specs.Content.{Took, TookPrefix}
-use Rattle.pac_outside.specs.Devices.{each}
+use Rattle.pac_outside.specs.Devices.{OneFaulted, each}
 use Rattle.pac_outside.specs.Disk.{DiskHistory}
 use Rattle.pac_outside.specs.declared.devices.Devices.{Devices}
 
@@ -45,6 +45,10 @@ pub record ObservedDevices : Type 0 where
   pub after : Devices (Option DiskHistory)
   pub faults_before : Devices ℕ
   pub faults_after : Devices ℕ
+
+-- no fault was counted: it isn't so that the count of exactly one device rose by one, nor that of the stream did
+abbrev pub IsFaultless : ObservedDevices → Observed → Type 0
+IsFaultless devices stream = ¬ OneFaulted devices.faults_before devices.faults_after × ¬ AnyFaulted stream
 
 -- devices by what is known of them and their counts of faults, observed as they were and as they are
 abbrev pub observed_devices : {D : Type 0} → (D → Option DiskHistory) → (D → ℕ) → Devices D → Devices D → ObservedDevices

@@ -5,7 +5,10 @@ use Rattle.std.proofs.lemmas.List.{length-drop}
 use Rattle.pac_value.specs.State.{Tables}
 use Rattle.pac_ops.specs.declared.batch.Batch.{Batch}
 use Rattle.pac_ops.specs.declared.note.Note.{Note}
+use Rattle.pac_outside.specs.Devices.{each}
 use Rattle.pac_outside.specs.Disk.{DiskHistory, IfKnown}
+use Rattle.pac_outside.specs.Parts.{reads_of}
+use Rattle.pac_outside.specs.declared.devices.Devices.{Devices}
 use Rattle.pac_types.specs.Typing.{CatalogueState}
 use Rattle.pac_log.specs.declared.damage.DamageKind.{DamageKind}
 use Rattle.pac_log.specs.declared.errors.LogError.{LogError}
@@ -21,7 +24,8 @@ use Rattle.pac_check.specs.declared.info.SlotName.TheVariants.{A, B}
 use Rattle.pac_check.specs.declared.slots.Slots.{Slots}
 use Rattle.pac_check.specs.Kinds.{slot_fault}
 use Rattle.pac_check.specs.SlotStates.{by_slot, info_of, newest_of, saved_txns, IsSlot}
-use Rattle.pac_store.specs.Images.{Images, IfReadKnown}
+use Rattle.pac_store.specs.Images.{Images, IfImagesKnown}
+use Rattle.pac_store.proofs.ImageLemmas.{images-then, where-known}
 use Rattle.pac_recover.specs.declared.errors.Damage.TheVariants.{Log, Slot}
 use Rattle.pac_recover.specs.declared.errors.LoadError.{LoadError}
 use Rattle.pac_recover.specs.declared.errors.LoadError.TheVariants as load
@@ -41,7 +45,7 @@ use Rattle.pac_recover.specs.Outcomes.{outcome_of}
 use Rattle.pac_recover.specs.Refusals.{AreRefused}
 use Rattle.pac_recover.specs.Recovering.{AbortsIn, IsOverIn, IsRecoveredFrom}
 use Rattle.pac_recover.specs.Replays.{IsReplayOf}
-use Rattle.pac_recover.proofs.LoadLemmas.{damaged-at-gates, known-weaker, newest-among, placed}
+use Rattle.pac_recover.proofs.LoadLemmas.{damaged-at-gates, newest-among, placed}
 use Rattle.pac_recover.proofs.SlotLemmas.{misplaced-here, same-damage}
 use Rattle.pac_recover.proofs.RefusalLemmas.{as-refused}
 
@@ -128,54 +132,60 @@ ok-by-both (Ok x) p q step = step x p q
 ok-by-both (Err e) p q step = tt
 
 -- where the log and the slots are known
-pub ends-known : {T : Type 0} (catalogue : CatalogueState) (slots : Slots) (base : Tables) (ended : Ended T) (first : NextGate) (log a b now : Option DiskHistory) → now ≡ log → IfKnown (IsAttachedTo first) log
+pub ends-known : {T : Type 0} (catalogue : CatalogueState) (slots : Slots) (base : Tables) (ended : Ended T) (first : NextGate) (devices : Devices (Option DiskHistory)) (now : Option DiskHistory) → now ≡ devices.log → IfKnown (IsAttachedTo first) devices.log
     → ((text x y : List ℕ) → IfKnown (λ h. StandsAfter text [] first h.now.seen → EndsBeside catalogue slots base ended h.now.seen x y) now)
-    → IfKnown (λ h. IsSlot catalogue.tables slots.a h.now.seen) a → IfKnown (λ h. IsSlot catalogue.tables slots.b h.now.seen) b
-    → IfKnown (λ x. IfKnown (λ y. AreNewestOf catalogue slots base x.now.seen y.now.seen) b) a → IfReadKnown (EndedSo ended) log a b
-ends-known catalogue slots base ended first None a b now same attached ends is_a is_b newest = tt
-ends-known catalogue slots base ended first (Some h) None b now same attached ends is_a is_b newest = tt
-ends-known catalogue slots base ended first (Some h) (Some x) None now same attached ends is_a is_b newest = tt
-ends-known catalogue slots base ended first (Some h) (Some x) (Some y) now same attached ends is_a is_b newest =
-    (from-first first (λ k. EndsBeside catalogue slots base ended k.now.seen x.now.seen y.now.seen) (Some h) now same attached (λ text. ends text x.now.seen y.now.seen)) is_a is_b newest
+    → IfKnown (λ h. IsSlot catalogue.tables slots.a h.now.seen) devices.slot_a → IfKnown (λ h. IsSlot catalogue.tables slots.b h.now.seen) devices.slot_b
+    → IfKnown (λ x. IfKnown (λ y. AreNewestOf catalogue slots base x.now.seen y.now.seen) devices.slot_b) devices.slot_a → IfImagesKnown (EndedSo ended) devices
+ends-known catalogue slots base ended first devices now same attached ends is_a is_b newest = where-known Of (EndedSo ended)
+    (λ known of. (from-first first (λ k. EndsBeside catalogue slots base ended k.now.seen known.slot_a.now.seen known.slot_b.now.seen) (Some known.log) now of.0 of.1 (λ text. ends text known.slot_a.now.seen known.slot_b.now.seen)) of.2 of.3 of.4)
+    devices (same, attached, is_a, is_b, newest)
+  where
+    Of : Devices (Option DiskHistory) → Type 0
+    Of d = (now ≡ d.log) × IfKnown (IsAttachedTo first) d.log × IfKnown (λ h. IsSlot catalogue.tables slots.a h.now.seen) d.slot_a × IfKnown (λ h. IsSlot catalogue.tables slots.b h.now.seen) d.slot_b
+        × IfKnown (λ x. IfKnown (λ y. AreNewestOf catalogue slots base x.now.seen y.now.seen) d.slot_b) d.slot_a
 
-pub misplaced-known : (catalogue : CatalogueState) (slots : Slots) (slot : SlotName) (at : ℕ) (kind : SlotDamageKind) (first : NextGate) (log a b now : Option DiskHistory) → now ≡ log → IfKnown (IsAttachedTo first) log
+pub misplaced-known : (catalogue : CatalogueState) (slots : Slots) (slot : SlotName) (at : ℕ) (kind : SlotDamageKind) (first : NextGate) (devices : Devices (Option DiskHistory)) (now : Option DiskHistory) → now ≡ devices.log → IfKnown (IsAttachedTo first) devices.log
     → ((text x y : List ℕ) → IfKnown (λ h. StandsAfter text [] first h.now.seen → IsDamagedBeside catalogue slots slot at kind h.now.seen x y) now)
-    → IfKnown (λ h. IsSlot catalogue.tables slots.a h.now.seen) a → IfKnown (λ h. IsSlot catalogue.tables slots.b h.now.seen) b → IfReadKnown (IsDamagedSlot slot at kind) log a b
-misplaced-known catalogue slots slot at kind first None a b now same attached damaged is_a is_b = tt
-misplaced-known catalogue slots slot at kind first (Some h) None b now same attached damaged is_a is_b = tt
-misplaced-known catalogue slots slot at kind first (Some h) (Some x) None now same attached damaged is_a is_b = tt
-misplaced-known catalogue slots slot at kind first (Some h) (Some x) (Some y) now same attached damaged is_a is_b =
-    (from-first first (λ k. IsDamagedBeside catalogue slots slot at kind k.now.seen x.now.seen y.now.seen) (Some h) now same attached (λ text. damaged text x.now.seen y.now.seen)) is_a is_b
+    → IfKnown (λ h. IsSlot catalogue.tables slots.a h.now.seen) devices.slot_a → IfKnown (λ h. IsSlot catalogue.tables slots.b h.now.seen) devices.slot_b → IfImagesKnown (IsDamagedSlot slot at kind) devices
+misplaced-known catalogue slots slot at kind first devices now same attached damaged is_a is_b = where-known Of (IsDamagedSlot slot at kind)
+    (λ known of. (from-first first (λ k. IsDamagedBeside catalogue slots slot at kind k.now.seen known.slot_a.now.seen known.slot_b.now.seen) (Some known.log) now of.0 of.1 (λ text. damaged text known.slot_a.now.seen known.slot_b.now.seen)) of.2 of.3)
+    devices (same, attached, is_a, is_b)
+  where
+    Of : Devices (Option DiskHistory) → Type 0
+    Of d = (now ≡ d.log) × IfKnown (IsAttachedTo first) d.log × IfKnown (λ h. IsSlot catalogue.tables slots.a h.now.seen) d.slot_a × IfKnown (λ h. IsSlot catalogue.tables slots.b h.now.seen) d.slot_b
 
 -- the bytes of a slot are damaged, and the log is whole
-pub broken-known : (catalogue : CatalogueState) (slot : SlotName) (at : ℕ) (kind : SlotDamageKind) (first : NextGate) → catalogue ≡ first.catalogue → (log a b now : Option DiskHistory) → now ≡ log → IfKnown (IsAttachedTo first) log
+pub broken-known : (catalogue : CatalogueState) (slot : SlotName) (at : ℕ) (kind : SlotDamageKind) (first : NextGate) → catalogue ≡ first.catalogue → (devices : Devices (Option DiskHistory)) (now : Option DiskHistory) → now ≡ devices.log → IfKnown (IsAttachedTo first) devices.log
     → ((text : List ℕ) → IfKnown (λ h. StandsAfter text [] first h.now.seen → IsWholeLog text first.catalogue h.now.seen) now)
-    → IfKnown (λ x. IfKnown (λ y. IsBrokenSlot catalogue.tables slot (slot_fault kind at) x.now.seen y.now.seen) b) a → IfReadKnown (IsDamagedSlot slot at kind) log a b
-broken-known catalogue slot at kind first is None a b now same attached whole broken = tt
-broken-known catalogue slot at kind first is (Some h) None b now same attached whole broken = tt
-broken-known catalogue slot at kind first is (Some h) (Some x) None now same attached whole broken = tt
-broken-known catalogue slot at kind first is (Some h) (Some x) (Some y) now same attached whole broken =
-    let log = from-first first (λ k. (text : List ℕ) × IsWholeLog text first.catalogue k.now.seen) (Some h) now same attached (with-text now whole) in
-    record {
-      text = log.0;
-      catalogue = first.catalogue;
-      batches = log.1.0;
-      log = log.1.1;
-      damage = inl (subst (λ (c : CatalogueState). IsBrokenSlot c.tables slot (slot_fault kind at) x.now.seen y.now.seen) is broken);
-    }
+    → IfKnown (λ x. IfKnown (λ y. IsBrokenSlot catalogue.tables slot (slot_fault kind at) x.now.seen y.now.seen) devices.slot_b) devices.slot_a → IfImagesKnown (IsDamagedSlot slot at kind) devices
+broken-known catalogue slot at kind first is devices now same attached whole broken = where-known Of (IsDamagedSlot slot at kind) here devices (same, attached, broken)
   where
     with-text : (now : Option DiskHistory) → ((text : List ℕ) → IfKnown (λ k. StandsAfter text [] first k.now.seen → IsWholeLog text first.catalogue k.now.seen) now)
         → (text : List ℕ) → IfKnown (λ k. StandsAfter text [] first k.now.seen → (t : List ℕ) × IsWholeLog t first.catalogue k.now.seen) now
     with-text None whole text = tt
     with-text (Some k) whole text = λ stands. (text, whole text stands)
 
+    Of : Devices (Option DiskHistory) → Type 0
+    Of d = (now ≡ d.log) × IfKnown (IsAttachedTo first) d.log × IfKnown (λ x. IfKnown (λ y. IsBrokenSlot catalogue.tables slot (slot_fault kind at) x.now.seen y.now.seen) d.slot_b) d.slot_a
+
+    here : (known : Devices DiskHistory) → Of (each Some known) → IsDamagedSlot slot at kind (reads_of known)
+    here known of =
+        let log = from-first first (λ k. (text : List ℕ) × IsWholeLog text first.catalogue k.now.seen) (Some known.log) now of.0 of.1 (with-text now whole) in
+        record {
+          text = log.0;
+          catalogue = first.catalogue;
+          batches = log.1.0;
+          log = log.1.1;
+          damage = inl (subst (λ (c : CatalogueState). IsBrokenSlot c.tables slot (slot_fault kind at) known.slot_a.now.seen known.slot_b.now.seen) is of.2);
+        }
+
 -- the same of what was answered
-pub ends-all : {T : Type 0} (catalogue : CatalogueState) (slots : Slots) (base : Tables) (first : NextGate) (log a b now : Option DiskHistory) → now ≡ log → IfKnown (IsAttachedTo first) log → (result : Result (Ended T) LoadError)
+pub ends-all : {T : Type 0} (catalogue : CatalogueState) (slots : Slots) (base : Tables) (first : NextGate) (devices : Devices (Option DiskHistory)) (now : Option DiskHistory) → now ≡ devices.log → IfKnown (IsAttachedTo first) devices.log → (result : Result (Ended T) LoadError)
     → IfOk result (λ ended. (text x y : List ℕ) → IfKnown (λ h. StandsAfter text [] first h.now.seen → EndsBeside catalogue slots base ended h.now.seen x y) now)
-    → IfKnown (λ h. IsSlot catalogue.tables slots.a h.now.seen) a → IfKnown (λ h. IsSlot catalogue.tables slots.b h.now.seen) b
-    → IfKnown (λ x. IfKnown (λ y. AreNewestOf catalogue slots base x.now.seen y.now.seen) b) a → IfOk result (λ ended. IfReadKnown (EndedSo ended) log a b)
-ends-all catalogue slots base first log a b now same attached (Ok ended) ends is_a is_b newest = ends-known catalogue slots base ended first log a b now same attached ends is_a is_b newest
-ends-all catalogue slots base first log a b now same attached (Err error) ends is_a is_b newest = tt
+    → IfKnown (λ h. IsSlot catalogue.tables slots.a h.now.seen) devices.slot_a → IfKnown (λ h. IsSlot catalogue.tables slots.b h.now.seen) devices.slot_b
+    → IfKnown (λ x. IfKnown (λ y. AreNewestOf catalogue slots base x.now.seen y.now.seen) devices.slot_b) devices.slot_a → IfOk result (λ ended. IfImagesKnown (EndedSo ended) devices)
+ends-all catalogue slots base first devices now same attached (Ok ended) ends is_a is_b newest = ends-known catalogue slots base ended first devices now same attached ends is_a is_b newest
+ends-all catalogue slots base first devices now same attached (Err error) ends is_a is_b newest = tt
 
 -- what is reported as damage of the log is damage of it
 pub log-cause : (cause : LogError) (at : ℕ) (kind : DamageKind) → log_not_loaded cause ≡ load.Damaged (Log at kind) → cause ≡ log_error.Damaged at kind
@@ -192,36 +202,36 @@ reads-whole text old new batches (Some h) reads = λ stands. (txns_by_batch batc
 
 -- ---- what is answered of it
 
-module _ (catalogue : CatalogueState) (outcome : Result Tables Note) (total : ℕ) (log a b : Option DiskHistory) (ends : IfReadKnown (EndsSo catalogue outcome total) log a b) where
-  pub ended-aborts : (note : Note) → outcome ≡ Err note → IfReadKnown (AbortsIn note) log a b
-  ended-aborts note is = known-weaker (EndsSo catalogue outcome total) (AbortsIn note) (λ images e. record { stored = e.stored; is = e.is; stops = e.outcome_is ∙ is }) log a b ends
+module _ (catalogue : CatalogueState) (outcome : Result Tables Note) (total : ℕ) (devices : Devices (Option DiskHistory)) (ends : IfImagesKnown (EndsSo catalogue outcome total) devices) where
+  pub ended-aborts : (note : Note) → outcome ≡ Err note → IfImagesKnown (AbortsIn note) devices
+  ended-aborts note is = images-then (EndsSo catalogue outcome total) (AbortsIn note) (λ images e. record { stored = e.stored; is = e.is; stops = e.outcome_is ∙ is }) devices ends
 
-  pub ended-over : (held : Tables) (table : List ℕ) (rows limit : ℕ) → outcome ≡ Ok held → IsFirstOver limit catalogue.tables held table rows → IfReadKnown (IsOverIn table rows limit) log a b
-  ended-over held table rows limit is over = known-weaker (EndsSo catalogue outcome total) (IsOverIn table rows limit) (λ images e. record {
+  pub ended-over : (held : Tables) (table : List ℕ) (rows limit : ℕ) → outcome ≡ Ok held → IsFirstOver limit catalogue.tables held table rows → IfImagesKnown (IsOverIn table rows limit) devices
+  ended-over held table rows limit is over = images-then (EndsSo catalogue outcome total) (IsOverIn table rows limit) (λ images e. record {
     stored = e.stored;
     is = e.is;
     held = held;
     ends = e.outcome_is ∙ is;
     over = subst (λ (c : CatalogueState). IsFirstOver limit c.tables held table rows) (sym e.same) over;
-  }) log a b ends
+  }) devices ends
 
-  pub ended-recovered : (held : Tables) → outcome ≡ Ok held → IfReadKnown (IsRecoveredFrom catalogue held total) log a b
-  ended-recovered held is = known-weaker (EndsSo catalogue outcome total) (IsRecoveredFrom catalogue held total) (λ images e. record {
+  pub ended-recovered : (held : Tables) → outcome ≡ Ok held → IfImagesKnown (IsRecoveredFrom catalogue held total) devices
+  ended-recovered held is = images-then (EndsSo catalogue outcome total) (IsRecoveredFrom catalogue held total) (λ images e. record {
     stored = e.stored;
     is = e.is;
     same = e.same;
     ends = e.outcome_is ∙ is;
     counted = e.counted;
-  }) log a b ends
+  }) devices ends
 
   -- what is answered of an execution that stops, and of tables over the limit
 
   module _ {A : Type 0} (limit : ℕ) (result : Result A RecoverError) (answer : RecoverError) (is : result ≡ Err answer) where
     abbrev Refused : Type 0
-    Refused = IfErr result (AreRefused limit (record { log = log; slot_a = a; slot_b = b }))
+    Refused = IfErr result (AreRefused limit devices)
 
     pub stopped-refused : (note : Note) → answer ≡ recover.AbortInLog note → outcome ≡ Err note → Refused
-    stopped-refused note same stops = as-refused limit (record { log = log; slot_a = a; slot_b = b }) result answer (recover.AbortInLog note) is same (ended-aborts note stops)
+    stopped-refused note same stops = as-refused limit devices result answer (recover.AbortInLog note) is same (ended-aborts note stops)
 
     pub over-refused : (name : List ℕ) (count top : ℕ) → answer ≡ recover.RowsOver name count top → top ≡ limit → (held : Tables) → outcome ≡ Ok held → IsFirstOver limit catalogue.tables held name count → Refused
-    over-refused name count top same at held done over = as-refused limit (record { log = log; slot_a = a; slot_b = b }) result answer (recover.RowsOver name count top) is same (at, ended-over held name count limit done over)
+    over-refused name count top same at held done over = as-refused limit devices result answer (recover.RowsOver name count top) is same (at, ended-over held name count limit done over)

@@ -6,6 +6,8 @@ use Rattle.std.proofs.lemmas.List.{length-append}
 use Rattle.pac_ops.specs.declared.batch.Batch.{Batch}
 use Rattle.pac_ops.specs.declared.transaction.Txn.{Txn}
 use Rattle.pac_outside.specs.Disk.{DiskHistory, IfKnown}
+use Rattle.pac_outside.specs.Parts.{reads_of}
+use Rattle.pac_outside.specs.declared.devices.Devices.{Devices}
 use Rattle.pac_outside.proofs.Runs.{three}
 use Rattle.pac_types.specs.Fits.{TxnFits}
 use Rattle.pac_types.specs.Typing.{CatalogueState}
@@ -21,8 +23,9 @@ use Rattle.pac_check.specs.declared.info.SlotName.TheVariants.{A, B}
 use Rattle.pac_check.specs.declared.state.SlotState.{SlotState}
 use Rattle.pac_check.specs.declared.state.SlotState.TheVariants.{Empty, Closed, Open}
 use Rattle.pac_check.specs.SlotStates.{info_of, newest_of, saved_txns, with_more, IsSlot}
-use Rattle.pac_store.specs.Images.{Images, IfReadKnown}
+use Rattle.pac_store.specs.Images.{Images, IfImagesKnown}
 use Rattle.pac_store.specs.Stored.{IsPlaced, AreNewest, IsStored}
+use Rattle.pac_store.proofs.ImageLemmas.{where-known}
 use Rattle.pac_store.proofs.StandsLemmas.{newest-one}
 use Rattle.pac_recover.specs.declared.gates.GatePlace.{GatePlace}
 use Rattle.pac_recover.specs.declared.loading.Loaded.{Loaded}
@@ -191,17 +194,12 @@ module _ (log : WholeLog) (loaded : Loaded) (count : ℕ) (is : IsWhole log) (pr
 -- ---- over what is known of the devices
 
 pub known-together : (P Q R : List ℕ → Type 0) (S : List ℕ → List ℕ → Type 0) (T : Images → Type 0) → ((images : Images) → P images.log → Q images.slot_a → R images.slot_b → S images.slot_a images.slot_b → T images)
-    → (log a b : Option DiskHistory) → IfKnown (λ h. P h.now.seen) log → IfKnown (λ h. Q h.now.seen) a → IfKnown (λ h. R h.now.seen) b → IfKnown (λ x. IfKnown (λ y. S x.now.seen y.now.seen) b) a → IfReadKnown T log a b
-known-together P Q R S T join None a b p q r s = tt
-known-together P Q R S T join (Some l) None b p q r s = tt
-known-together P Q R S T join (Some l) (Some x) None p q r s = tt
-known-together P Q R S T join (Some l) (Some x) (Some y) p q r s = join (record { log = l.now.seen; slot_a = x.now.seen; slot_b = y.now.seen }) p q r s
-
-pub known-weaker : (P Q : Images → Type 0) → ((images : Images) → P images → Q images) → (log a b : Option DiskHistory) → IfReadKnown P log a b → IfReadKnown Q log a b
-known-weaker P Q weaker None a b p = tt
-known-weaker P Q weaker (Some l) None b p = tt
-known-weaker P Q weaker (Some l) (Some x) None p = tt
-known-weaker P Q weaker (Some l) (Some x) (Some y) p = weaker (record { log = l.now.seen; slot_a = x.now.seen; slot_b = y.now.seen }) p
+    → (devices : Devices (Option DiskHistory)) → IfKnown (λ h. P h.now.seen) devices.log → IfKnown (λ h. Q h.now.seen) devices.slot_a → IfKnown (λ h. R h.now.seen) devices.slot_b
+    → IfKnown (λ x. IfKnown (λ y. S x.now.seen y.now.seen) devices.slot_b) devices.slot_a → IfImagesKnown T devices
+known-together P Q R S T join devices p q r s = where-known Of T (λ known of. join (reads_of known) of.0 of.1 of.2 of.3) devices (p, q, r, s)
+  where
+    Of : Devices (Option DiskHistory) → Type 0
+    Of d = IfKnown (λ h. P h.now.seen) d.log × IfKnown (λ h. Q h.now.seen) d.slot_a × IfKnown (λ h. R h.now.seen) d.slot_b × IfKnown (λ x. IfKnown (λ y. S x.now.seen y.now.seen) d.slot_b) d.slot_a
 
 -- what is loaded is stored
 pub loaded-stored : (loaded : Loaded) (images : Images) → IsLoadedFrom loaded images → IsStored images (stored_of loaded)
@@ -220,27 +218,24 @@ loaded-stored loaded images is = record {
 }
 
 pub known-beside : (P : List ℕ → Type 0) (S : List ℕ → List ℕ → Type 0) (T : Images → Type 0) → ((images : Images) → P images.log → S images.slot_a images.slot_b → T images)
-    → (log a b : Option DiskHistory) → IfKnown (λ h. P h.now.seen) log → IfKnown (λ x. IfKnown (λ y. S x.now.seen y.now.seen) b) a → IfReadKnown T log a b
-known-beside P S T join None a b p s = tt
-known-beside P S T join (Some l) None b p s = tt
-known-beside P S T join (Some l) (Some x) None p s = tt
-known-beside P S T join (Some l) (Some x) (Some y) p s = join (record { log = l.now.seen; slot_a = x.now.seen; slot_b = y.now.seen }) p s
+    → (devices : Devices (Option DiskHistory)) → IfKnown (λ h. P h.now.seen) devices.log → IfKnown (λ x. IfKnown (λ y. S x.now.seen y.now.seen) devices.slot_b) devices.slot_a → IfImagesKnown T devices
+known-beside P S T join devices p s = where-known Of T (λ known of. join (reads_of known) of.0 of.1) devices (p, s)
+  where
+    Of : Devices (Option DiskHistory) → Type 0
+    Of d = IfKnown (λ h. P h.now.seen) d.log × IfKnown (λ x. IfKnown (λ y. S x.now.seen y.now.seen) d.slot_b) d.slot_a
 
-pub known-never : (T : Images → Type 0) (log a b : Option DiskHistory) → IfKnown (λ x. IfKnown (λ y. ⊥) b) a → IfReadKnown T log a b
-known-never T None a b none = tt
-known-never T (Some l) None b none = tt
-known-never T (Some l) (Some x) None none = tt
-known-never T (Some l) (Some x) (Some y) none = absurd none
+pub known-never : (T : Images → Type 0) (devices : Devices (Option DiskHistory)) → IfKnown (λ x. IfKnown (λ y. ⊥) devices.slot_b) devices.slot_a → IfImagesKnown T devices
+known-never T devices none = where-known (λ d. IfKnown (λ x. IfKnown (λ y. ⊥) d.slot_b) d.slot_a) T (λ known never. absurd never) devices none
 
 -- the first damage of slots that were read beside a whole log
-pub first-damage : (log : WholeLog) (catalogue : CatalogueState) (gates : List GatePlace) (slot : SlotName) (at : ℕ) (kind : SlotDamageKind) → catalogue ≡ log.reader.gate.catalogue → gates ≡ log.gates.items → (l a b : Option DiskHistory)
-    → IfKnown (λ h. HoldsWhole log h.now.seen) l → IfKnown (λ x. IfKnown (λ y. IsSlotDamage (IsAmongGates gates) catalogue.tables slot at kind x.now.seen y.now.seen) b) a → IfReadKnown (IsDamagedSlot slot at kind) l a b
-first-damage log catalogue gates slot at kind same are l a b holds damage =
+pub first-damage : (log : WholeLog) (catalogue : CatalogueState) (gates : List GatePlace) (slot : SlotName) (at : ℕ) (kind : SlotDamageKind) → catalogue ≡ log.reader.gate.catalogue → gates ≡ log.gates.items → (devices : Devices (Option DiskHistory))
+    → IfKnown (λ h. HoldsWhole log h.now.seen) devices.log → IfKnown (λ x. IfKnown (λ y. IsSlotDamage (IsAmongGates gates) catalogue.tables slot at kind x.now.seen y.now.seen) devices.slot_b) devices.slot_a → IfImagesKnown (IsDamagedSlot slot at kind) devices
+first-damage log catalogue gates slot at kind same are devices holds damage =
     known-beside (HoldsWhole log) (IsSlotDamage (IsAmongGates gates) catalogue.tables slot at kind) (IsDamagedSlot slot at kind)
     (λ images whole here. damaged-beside log images slot at kind whole
     (subst (λ (c : CatalogueState). IsSlotDamage (IsAmongGates log.gates.items) c.tables slot at kind images.slot_a images.slot_b) same
     (subst (λ (gs : List GatePlace). IsSlotDamage (IsAmongGates gs) catalogue.tables slot at kind images.slot_a images.slot_b) are here)))
-    l a b holds damage
+    devices holds damage
 
 -- what is known of slots that were read meanwhile is known of them as they were
 pub moved-known : (S : List ℕ → List ℕ → Type 0) (a b x y : Option DiskHistory) → x ≡ a → y ≡ b → IfKnown (λ h. IfKnown (λ k. S h.now.seen k.now.seen) y) x → IfKnown (λ h. IfKnown (λ k. S h.now.seen k.now.seen) b) a

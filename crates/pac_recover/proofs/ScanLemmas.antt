@@ -4,7 +4,10 @@ use Rattle.std.proofs.lemmas.List.{length-drop}
 use Rattle.pac_value.specs.State.{Tables}
 use Rattle.pac_ops.specs.declared.note.Note.{Note}
 use Rattle.pac_ops.specs.declared.transaction.Txn.{Txn}
+use Rattle.pac_outside.specs.Devices.{each}
 use Rattle.pac_outside.specs.Disk.{DiskHistory, IfKnown}
+use Rattle.pac_outside.specs.Parts.{reads_of}
+use Rattle.pac_outside.specs.declared.devices.Devices.{Devices}
 use Rattle.pac_types.specs.Execution.{serial}
 use Rattle.pac_types.specs.Typing.{CatalogueState}
 use Rattle.pac_log.specs.declared.position.NextGate.{NextGate}
@@ -19,7 +22,8 @@ use Rattle.pac_check.specs.declared.info.SlotName.TheVariants.{A, B}
 use Rattle.pac_check.specs.declared.state.SlotState.{SlotState}
 use Rattle.pac_check.specs.declared.state.SlotState.TheVariants.{Empty, Closed, Open}
 use Rattle.pac_check.specs.SlotStates.{info_of, newest_of, saved_txns, with_more, IsSlot}
-use Rattle.pac_store.specs.Images.{Images, IfReadKnown}
+use Rattle.pac_store.specs.Images.{Images, IfImagesKnown}
+use Rattle.pac_store.proofs.ImageLemmas.{where-known}
 use Rattle.pac_store.specs.Stored.{AreNewest, IsPlaced}
 use Rattle.pac_store.proofs.StandsLemmas.{newest-one}
 use Rattle.pac_recover.specs.declared.gates.GatePlace.{GatePlace}
@@ -53,14 +57,14 @@ log-known log gate total (Some h) from holds = from h.now.seen holds
 -- ---- the slots
 
 -- the first damage of slots beside a log that was passed
-pub passed-damage : (log : PassedLog) (catalogue : CatalogueState) (gates : List GatePlace) (slot : SlotName) (at : ℕ) (kind : SlotDamageKind) → catalogue ≡ log.reader.gate.catalogue → gates ≡ log.gates.items → (l a b : Option DiskHistory)
-    → IfKnown (λ h. HoldsGates log h.now.seen) l → IfKnown (λ x. IfKnown (λ y. IsSlotDamage (IsAmongGates gates) catalogue.tables slot at kind x.now.seen y.now.seen) b) a → IfReadKnown (IsDamagedSlot slot at kind) l a b
-passed-damage log catalogue gates slot at kind same are l a b holds damage =
+pub passed-damage : (log : PassedLog) (catalogue : CatalogueState) (gates : List GatePlace) (slot : SlotName) (at : ℕ) (kind : SlotDamageKind) → catalogue ≡ log.reader.gate.catalogue → gates ≡ log.gates.items → (devices : Devices (Option DiskHistory))
+    → IfKnown (λ h. HoldsGates log h.now.seen) devices.log → IfKnown (λ x. IfKnown (λ y. IsSlotDamage (IsAmongGates gates) catalogue.tables slot at kind x.now.seen y.now.seen) devices.slot_b) devices.slot_a → IfImagesKnown (IsDamagedSlot slot at kind) devices
+passed-damage log catalogue gates slot at kind same are devices holds damage =
     known-beside (HoldsGates log) (IsSlotDamage (IsAmongGates gates) catalogue.tables slot at kind) (IsDamagedSlot slot at kind)
     (λ images whole here. damaged-at-gates whole.text log.reader.gate.catalogue whole.whole.batches log.gates.items images slot at kind whole.whole.log whole.whole.are
     (subst (λ (c : CatalogueState). IsSlotDamage (IsAmongGates log.gates.items) c.tables slot at kind images.slot_a images.slot_b) same
     (subst (λ (gs : List GatePlace). IsSlotDamage (IsAmongGates gs) catalogue.tables slot at kind images.slot_a images.slot_b) are here)))
-    l a b holds damage
+    devices holds damage
 
 -- the newest slot is at a gate where both are
 pub newest-at : (text : List ℕ) (batches : List (List Txn)) (a b : SlotState) (newest : Option SlotInfo) → newest ≡ with_more (info_of A a) (info_of B b) → IsPlaced text batches a → IsPlaced text batches b → IsAtGateOf text batches newest
@@ -141,32 +145,31 @@ never-log gate total P None now same holds never = tt
 never-log gate total P (Some h) now same holds never =
     absurd ((subst (λ (t : Option DiskHistory). IfKnown (λ k. HoldsFrom holds.text holds.batches gate k.now.seen → ⊥) t) same (never holds.text holds.batches)) (holds-from gate total h.now.seen holds))
 
-module _ (scanned : Scanned) (log a b now : Option DiskHistory) (same : now ≡ log) (scans : IfReadKnown (IsScannedFrom scanned) log a b) where
-  -- nor a slot that isn't at its gate
-  pub never-slot : (P : Images → Type 0) → ((text : List ℕ) (batches : List (List Txn)) → IfKnown (λ h. HoldsFrom text batches scanned.reader.gate h.now.seen → IsAtGateOf text batches (newest_of scanned.slots) → ⊥) now) → IfReadKnown P log a b
-  never-slot P never = over log a b same scans
+module _ (scanned : Scanned) (devices : Devices (Option DiskHistory)) (now : Option DiskHistory) (same : now ≡ devices.log) (scans : IfImagesKnown (IsScannedFrom scanned) devices) where
+  -- what is said of the log that the second reading reads holds of the one that was scanned
+  again : (P : List ℕ → List (List Txn) → List ℕ → Type 0) (Q : Images → Type 0)
+      → ((text : List ℕ) (batches : List (List Txn)) → IfKnown (λ h. HoldsFrom text batches scanned.reader.gate h.now.seen → P text batches h.now.seen) now)
+      → ((images : Images) → (is : IsScannedFrom scanned images) → P is.log.text is.log.batches images.log → Q images) → IfImagesKnown Q devices
+  again P Q says step = where-known Of Q here devices (same, scans)
     where
-      over : (log a b : Option DiskHistory) → now ≡ log → IfReadKnown (IsScannedFrom scanned) log a b → IfReadKnown P log a b
-      over None a b same scans = tt
-      over (Some l) None b same scans = tt
-      over (Some l) (Some x) None same scans = tt
-      over (Some l) (Some x) (Some y) same scans =
-          absurd ((subst (λ (t : Option DiskHistory). IfKnown (λ k. HoldsFrom scans.log.text scans.log.batches scanned.reader.gate k.now.seen → IsAtGateOf scans.log.text scans.log.batches (newest_of scanned.slots) → ⊥) t) same (never scans.log.text scans.log.batches))
-          (holds-from scanned.reader.gate scanned.total l.now.seen scans.log) (newest-at scans.log.text scans.log.batches scanned.slots.a scanned.slots.b (newest_of scanned.slots) refl scans.place_a scans.place_b))
+      Of : Devices (Option DiskHistory) → Type 0
+      Of d = (now ≡ d.log) × IfImagesKnown (IsScannedFrom scanned) d
+
+      here : (known : Devices DiskHistory) → Of (each Some known) → Q (reads_of known)
+      here known of = step (reads_of known) of.1
+          ((subst (λ (t : Option DiskHistory). IfKnown (λ k. HoldsFrom of.1.log.text of.1.log.batches scanned.reader.gate k.now.seen → P of.1.log.text of.1.log.batches k.now.seen) t) of.0 (says of.1.log.text of.1.log.batches))
+          (holds-from scanned.reader.gate scanned.total known.log.now.seen of.1.log))
+
+  -- nor a slot that isn't at its gate
+  pub never-slot : (P : Images → Type 0) → ((text : List ℕ) (batches : List (List Txn)) → IfKnown (λ h. HoldsFrom text batches scanned.reader.gate h.now.seen → IsAtGateOf text batches (newest_of scanned.slots) → ⊥) now) → IfImagesKnown P devices
+  never-slot P never = again (λ text batches image. IsAtGateOf text batches (newest_of scanned.slots) → ⊥) P never
+      (λ images is misplaced. absurd (misplaced (newest-at is.log.text is.log.batches scanned.slots.a scanned.slots.b (newest_of scanned.slots) refl is.place_a is.place_b)))
 
   -- and what it executes ends as serial execution does
   pub executed-known : (outcome : Result Tables Note) → scanned.reader.gate.catalogue ≡ scanned.catalogue → scanned.txns ≡ saved_txns (newest_of scanned.slots)
       → ((text : List ℕ) (batches : List (List Txn)) → IfKnown (λ h. HoldsFrom text batches scanned.reader.gate h.now.seen
       → outcome ≡ serial scanned.catalogue.procs (saved_txns (newest_of scanned.slots) + 1) (drop (saved_txns (newest_of scanned.slots)) (all_txns batches)) scanned.tables.rows) now)
-      → IfReadKnown (EndsSo scanned.catalogue outcome scanned.total) log a b
-  executed-known outcome catalogue number executed = over log a b same scans
-    where
-      over : (log a b : Option DiskHistory) → now ≡ log → IfReadKnown (IsScannedFrom scanned) log a b → IfReadKnown (EndsSo scanned.catalogue outcome scanned.total) log a b
-      over None a b same scans = tt
-      over (Some l) None b same scans = tt
-      over (Some l) (Some x) None same scans = tt
-      over (Some l) (Some x) (Some y) same scans =
-          scanned-ends scanned outcome (record { log = l.now.seen; slot_a = x.now.seen; slot_b = y.now.seen }) catalogue number scans
-          ((subst (λ (t : Option DiskHistory). IfKnown (λ k. HoldsFrom scans.log.text scans.log.batches scanned.reader.gate k.now.seen
-          → outcome ≡ serial scanned.catalogue.procs (saved_txns (newest_of scanned.slots) + 1) (drop (saved_txns (newest_of scanned.slots)) (all_txns scans.log.batches)) scanned.tables.rows) t) same
-          (executed scans.log.text scans.log.batches)) (holds-from scanned.reader.gate scanned.total l.now.seen scans.log))
+      → IfImagesKnown (EndsSo scanned.catalogue outcome scanned.total) devices
+  executed-known outcome catalogue number executed = again
+      (λ text batches image. outcome ≡ serial scanned.catalogue.procs (saved_txns (newest_of scanned.slots) + 1) (drop (saved_txns (newest_of scanned.slots)) (all_txns batches)) scanned.tables.rows)
+      (EndsSo scanned.catalogue outcome scanned.total) executed (λ images is ends. scanned-ends scanned outcome images catalogue number is ends)

@@ -4,7 +4,10 @@ use Rattle.std.specs.Prelude.{IfErr, IfOk}
 use Rattle.pac_value.specs.State.{Tables}
 use Rattle.pac_ops.specs.declared.note.Note.{Note}
 use Rattle.pac_ops.specs.declared.transaction.Txn.{Txn}
+use Rattle.pac_outside.specs.Devices.{each}
 use Rattle.pac_outside.specs.Disk.{DiskHistory}
+use Rattle.pac_outside.specs.Parts.{reads_of}
+use Rattle.pac_outside.specs.declared.devices.Devices.{Devices}
 use Rattle.pac_types.specs.Execution.{serial}
 use Rattle.pac_types.specs.Typing.{CatalogueState}
 use Rattle.pac_log.specs.declared.damage.DamageKind.{DamageKind}
@@ -20,8 +23,9 @@ use Rattle.pac_check.specs.declared.info.SlotName.TheVariants.{A, B}
 use Rattle.pac_check.specs.declared.state.SlotState.{SlotState}
 use Rattle.pac_check.specs.declared.state.SlotState.TheVariants.{Open}
 use Rattle.pac_check.specs.SlotStates.{by_slot, slot_read}
-use Rattle.pac_store.specs.Images.{Images, IfReadKnown}
+use Rattle.pac_store.specs.Images.{Images, IfImagesKnown}
 use Rattle.pac_store.specs.Stands.{EndsWith, StandsFor}
+use Rattle.pac_store.proofs.ImageLemmas.{where-known}
 use Rattle.pac_store.proofs.StandsLemmas.{few-tables, goes-on, readable, IsReadable}
 use Rattle.pac_recover.specs.declared.errors.Damage.TheVariants.{Log, Slot}
 use Rattle.pac_recover.specs.declared.errors.LoadError.TheVariants as load
@@ -131,12 +135,12 @@ module _ (text : List ℕ) (catalogue : CatalogueState) (history : List Txn) (le
 
 -- ---- over what is known of the devices
 
-module _ (limit : ℕ) (l x y : DiskHistory) (text : List ℕ) (catalogue : CatalogueState) (history : List Txn) (least : ℕ) where
+module _ (limit : ℕ) (known : Devices DiskHistory) (text : List ℕ) (catalogue : CatalogueState) (history : List Txn) (least : ℕ) where
   abbrev images : Images
-  images = record { log = l.now.seen; slot_a = x.now.seen; slot_b = y.now.seen }
+  images = reads_of known
 
-  recovers-here : (result : Result Recovered RecoverError) → IfOk result (λ recovered. IfReadKnown (IsRecoveredFrom recovered.catalogue recovered.tables.rows recovered.txns) (Some l) (Some x) (Some y))
-      → IfErr result (AreRefused limit (record { log = Some l; slot_a = Some x; slot_b = Some y })) → StandsFor text catalogue history least images → Recovers catalogue history least result
+  recovers-here : (result : Result Recovered RecoverError) → IfOk result (λ recovered. IsRecoveredFrom recovered.catalogue recovered.tables.rows recovered.txns images)
+      → IfErr result (AreRefused limit (each Some known)) → StandsFor text catalogue history least images → Recovers catalogue history least result
   recovers-here (Ok recovered) knows refused is = recovers-prefix text catalogue history least images is recovered knows
   recovers-here (Err (error.Load load.NoStore)) knows refused is = is-store text catalogue history least images is refused
   recovers-here (Err (error.Load (load.Damaged (Log at kind)))) knows refused is = no-log-damage text catalogue history least images is at kind refused
@@ -147,10 +151,11 @@ module _ (limit : ℕ) (l x y : DiskHistory) (text : List ℕ) (catalogue : Cata
   recovers-here (Err (error.RowsOver table rows most)) knows refused is =
       subst (λ (n : ℕ). IsPrefixOverLimit catalogue history least table rows n) (sym refused.0) (over-prefix text catalogue history least images is table rows limit refused.1)
 
-pub recovers : (limit : ℕ) (result : Result Recovered RecoverError) (log a b : Option DiskHistory) → IfOk result (λ recovered. IfReadKnown (IsRecoveredFrom recovered.catalogue recovered.tables.rows recovered.txns) log a b)
-    → IfErr result (AreRefused limit (record { log = log; slot_a = a; slot_b = b })) → (text : List ℕ) (catalogue : CatalogueState) (history : List Txn) (least : ℕ)
-    → IfReadKnown (λ images. StandsFor text catalogue history least images → Recovers catalogue history least result) log a b
-recovers limit result None a b knows refused text catalogue history least = tt
-recovers limit result (Some l) None b knows refused text catalogue history least = tt
-recovers limit result (Some l) (Some x) None knows refused text catalogue history least = tt
-recovers limit result (Some l) (Some x) (Some y) knows refused text catalogue history least = recovers-here limit l x y text catalogue history least result knows refused
+pub recovers : (limit : ℕ) (result : Result Recovered RecoverError) (devices : Devices (Option DiskHistory)) → IfOk result (λ recovered. IfImagesKnown (IsRecoveredFrom recovered.catalogue recovered.tables.rows recovered.txns) devices)
+    → IfErr result (AreRefused limit devices) → (text : List ℕ) (catalogue : CatalogueState) (history : List Txn) (least : ℕ)
+    → IfImagesKnown (λ images. StandsFor text catalogue history least images → Recovers catalogue history least result) devices
+recovers limit result devices knows refused text catalogue history least = where-known Of (λ images. StandsFor text catalogue history least images → Recovers catalogue history least result)
+    (λ known of. recovers-here limit known text catalogue history least result of.0 of.1) devices (knows, refused)
+  where
+    Of : Devices (Option DiskHistory) → Type 0
+    Of d = IfOk result (λ recovered. IfImagesKnown (IsRecoveredFrom recovered.catalogue recovered.tables.rows recovered.txns) d) × IfErr result (AreRefused limit d)

@@ -4,7 +4,7 @@ use Rattle.pac_outside.specs.Disk.{DiskHistory, IfKnown}
 use Rattle.pac_outside.specs.declared.devices.Devices.{Devices}
 use Rattle.pac_types.specs.Typing.{CatalogueState}
 use Rattle.pac_log.specs.Reading.{IsStore}
-use Rattle.pac_store.specs.Images.{Images, IfReadKnown}
+use Rattle.pac_store.specs.Images.{IfImagesKnown}
 use Rattle.pac_recover.specs.declared.errors.Damage.{Damage}
 use Rattle.pac_recover.specs.declared.errors.Damage.TheVariants.{Log, Slot}
 use Rattle.pac_recover.specs.declared.errors.LoadError.TheVariants.{NoStore, Damaged, DiskFault, NoMemory}
@@ -12,10 +12,6 @@ use Rattle.pac_recover.specs.declared.errors.RecoverError.{RecoverError}
 use Rattle.pac_recover.specs.declared.errors.RecoverError.TheVariants.{Load, AbortInLog, RowsOver}
 use Rattle.pac_recover.specs.Damages.{IsDamagedLog, IsDamagedSlot}
 use Rattle.pac_recover.specs.Recovering.{AbortsIn, IsOverIn}
-
--- what a read gives of the devices has P, where each of them is known
-abbrev pub IfImagesKnown : (Images → Type 0) → Devices (Option DiskHistory) → Type 0
-IfImagesKnown P devices = IfReadKnown P devices.log devices.slot_a devices.slot_b
 
 -- the log's device holds no log, where that is known
 abbrev pub HasNoStore : Devices (Option DiskHistory) → Type 0

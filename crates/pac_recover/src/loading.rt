@@ -8,7 +8,7 @@ ghost use Rattle.pac_plan.specs.Analysis.{IsAnalysis};
 ghost use Rattle.pac_log.specs.declared.damage.DamageKind.{DamageKind as ALogDamage};
 ghost use Rattle.pac_check.specs.declared.damage.SlotDamageKind.{SlotDamageKind as ASlotDamage};
 ghost use Rattle.pac_check.specs.declared.info.SlotName.{SlotName as ASlotName};
-ghost use Rattle.pac_store.specs.Images.{Images, IfReadKnown};
+ghost use Rattle.pac_store.specs.Images.{Images, IfImagesKnown};
 ghost use Rattle.pac_store.specs.Stored.{IsStored};
 ghost use Rattle.pac_recover.specs.declared.errors.Damage.TheVariants.{Log as InLog, Slot as InSlot};
 ghost use Rattle.pac_check.specs.SlotStates.{IsSlot, info_of, saved_txns};
@@ -72,8 +72,8 @@ pub fn load<D: Disk>(alloc: Global, devices: &mut Devices<D>) -> Result<Loaded, 
     ensures slot_b { IfOk result (λ loaded. IfKnown (λ old. IsSlot loaded.catalogue.tables loaded.slots.b old.now.seen) (D.known devices.old.slot_b)) }
 
     // What is stored.
-    ensures loaded { IfOk result (λ loaded. IfReadKnown (IsLoadedFrom loaded) (D.known devices.old.log) (D.known devices.old.slot_a) (D.known devices.old.slot_b)) }
-    ensures stored { IfOk result (λ loaded. IfReadKnown (λ images. IsStored images (stored_of loaded)) (D.known devices.old.log) (D.known devices.old.slot_a) (D.known devices.old.slot_b)) }
+    ensures loaded { IfOk result (λ loaded. IfImagesKnown (IsLoadedFrom loaded) (each D.known devices.old)) }
+    ensures stored { IfOk result (λ loaded. IfImagesKnown (λ images. IsStored images (stored_of loaded)) (each D.known devices.old)) }
 
     // When each refusal comes.
     ensures no_store { IsErrOf result LoadError.NoStore → HasNoStore (each D.known devices.old) }

@@ -5,7 +5,7 @@ ghost use Rattle.pac_ops.specs.declared.transaction.Txn.{Txn as ATxn};
 ghost use Rattle.pac_types.specs.Execution.{first_over};
 ghost use Rattle.pac_types.specs.Fits.{FitsCatalogue};
 ghost use Rattle.pac_types.specs.Typing.{CatalogueState};
-ghost use Rattle.pac_store.specs.Images.{IfReadKnown};
+ghost use Rattle.pac_store.specs.Images.{IfImagesKnown};
 ghost use Rattle.pac_store.specs.Stands.{StandsFor};
 ghost use Rattle.pac_recover.specs.Recovering.{IsRecoveredFrom, Recovers};
 ghost use Rattle.pac_recover.specs.Refusals.{AreRefused};
@@ -57,13 +57,13 @@ pub fn recover<D: Disk, H: Threads + Wait + Sync, G: Gate + Sync>(
     requires workers { 1 ≤ workers }
 
     // What is recovered, and when each refusal comes.
-    ensures recovered { IfOk result (λ recovered. IfReadKnown (IsRecoveredFrom recovered.catalogue recovered.tables.rows recovered.txns) (D.known devices.old.log) (D.known devices.old.slot_a) (D.known devices.old.slot_b)) }
+    ensures recovered { IfOk result (λ recovered. IfImagesKnown (IsRecoveredFrom recovered.catalogue recovered.tables.rows recovered.txns) (each D.known devices.old)) }
     ensures within { IfOk result (λ recovered. first_over limit (length recovered.catalogue.tables) recovered.tables.rows ≡ None) }
     ensures fits { IfOk result (λ recovered. FitsCatalogue recovered.catalogue recovered.tables.tables recovered.tables.rows) }
     ensures refused { IfErr result (AreRefused limit (each D.known devices.old)) }
 
     // Where the devices stand for a history, it is a prefix of it that is recovered.
-    ensures stands { (text : List ℕ) (catalogue : CatalogueState) (history : List ATxn) (least : ℕ) → IfReadKnown (λ images. StandsFor text catalogue history least images → Recovers catalogue history least result) (D.known devices.old.log) (D.known devices.old.slot_a) (D.known devices.old.slot_b) }
+    ensures stands { (text : List ℕ) (catalogue : CatalogueState) (history : List ATxn) (least : ℕ) → IfImagesKnown (λ images. StandsFor text catalogue history least images → Recovers catalogue history least result) (each D.known devices.old) }
 
     // The devices are only read, and no call of one comes after one that failed.
     ensures same { each D.known devices.new ≡ each D.known devices.old }
@@ -90,7 +90,7 @@ pub fn recover_by_windows<D: Disk, H: Threads + Wait + Sync, G: Gate + Sync>(
 ) -> Result<Recovered, RecoverError>
     requires workers { 1 ≤ workers }
     requires window { 1 ≤ window }
-    ensures recovered { IfOk result (λ recovered. IfReadKnown (IsRecoveredFrom recovered.catalogue recovered.tables.rows recovered.txns) (D.known devices.old.log) (D.known devices.old.slot_a) (D.known devices.old.slot_b)) }
+    ensures recovered { IfOk result (λ recovered. IfImagesKnown (IsRecoveredFrom recovered.catalogue recovered.tables.rows recovered.txns) (each D.known devices.old)) }
     ensures within { IfOk result (λ recovered. first_over limit (length recovered.catalogue.tables) recovered.tables.rows ≡ None) }
     ensures fits { IfOk result (λ recovered. FitsCatalogue recovered.catalogue recovered.tables.tables recovered.tables.rows) }
     ensures refused { IfErr result (AreRefused limit (each D.known devices.old)) }

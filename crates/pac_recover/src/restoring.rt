@@ -5,7 +5,7 @@ ghost use Rattle.pac_types.specs.Execution.{first_over};
 ghost use Rattle.pac_types.specs.Fits.{FitsCatalogue};
 ghost use Rattle.pac_check.specs.SlotStates.{IsSlot};
 ghost use Rattle.pac_outside.specs.Disk.{IfKnown};
-ghost use Rattle.pac_store.specs.Images.{IfReadKnown};
+ghost use Rattle.pac_store.specs.Images.{IfImagesKnown};
 ghost use Rattle.pac_recover.specs.Recovering.{IsRecoveredFrom};
 ghost use Rattle.pac_recover.specs.Restoring.{IsRestored};
 ghost use Rattle.pac_recover.specs.Logs.{HoldsLogUpTo};
@@ -59,7 +59,7 @@ pub fn restore<D: Disk, T: TableRows, X: Executor>(
     ensures log { IfOk result (λ restored. IfKnown (λ old. HoldsLogUpTo restored.reader.gate old.now.seen) (D.known devices.old.log)) }
     ensures slot_a { IfOk result (λ restored. IfKnown (λ old. IsSlot restored.catalogue.tables restored.slots.a old.now.seen) (D.known devices.old.slot_a)) }
     ensures slot_b { IfOk result (λ restored. IfKnown (λ old. IsSlot restored.catalogue.tables restored.slots.b old.now.seen) (D.known devices.old.slot_b)) }
-    ensures restored { IfOk result (λ restored. IfReadKnown (IsRecoveredFrom restored.catalogue restored.tables.rows restored.reader.gate.txns) (D.known devices.old.log) (D.known devices.old.slot_a) (D.known devices.old.slot_b)) }
+    ensures restored { IfOk result (λ restored. IfImagesKnown (IsRecoveredFrom restored.catalogue restored.tables.rows restored.reader.gate.txns) (each D.known devices.old)) }
 
     // When each refusal comes.
     ensures refused { IfErr result (AreRefused limit (each D.known devices.old)) }

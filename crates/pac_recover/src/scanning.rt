@@ -10,7 +10,7 @@ ghost use Rattle.pac_log.specs.declared.damage.DamageKind.{DamageKind as ALogDam
 ghost use Rattle.pac_check.specs.declared.damage.SlotDamageKind.{SlotDamageKind as ASlotDamage};
 ghost use Rattle.pac_check.specs.declared.info.SlotName.{SlotName as ASlotName};
 ghost use Rattle.pac_check.specs.SlotStates.{IsSlot, info_of};
-ghost use Rattle.pac_store.specs.Images.{Images, IfReadKnown};
+ghost use Rattle.pac_store.specs.Images.{Images, IfImagesKnown};
 ghost use Rattle.pac_recover.specs.declared.errors.Damage.TheVariants.{Log as InLog, Slot as InSlot};
 ghost use Rattle.pac_recover.specs.Loading.{AreNewestOf, IsInfoAmong};
 ghost use Rattle.pac_recover.specs.Passing.{HoldsGates, IsReadThrough};
@@ -66,7 +66,7 @@ pub fn scan<D: Disk>(alloc: Global, devices: &mut Devices<D>) -> Result<Scanned,
     ensures slot_b { IfOk result (λ scanned. IfKnown (λ old. IsSlot scanned.catalogue.tables scanned.slots.b old.now.seen) (D.known devices.old.slot_b)) }
 
     // What is stored.
-    ensures scanned { IfOk result (λ scanned. IfReadKnown (IsScannedFrom scanned) (D.known devices.old.log) (D.known devices.old.slot_a) (D.known devices.old.slot_b)) }
+    ensures scanned { IfOk result (λ scanned. IfImagesKnown (IsScannedFrom scanned) (each D.known devices.old)) }
 
     // When each refusal comes.
     ensures no_store { IsErrOf result LoadError.NoStore → HasNoStore (each D.known devices.old) }

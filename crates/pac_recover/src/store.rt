@@ -9,7 +9,7 @@ ghost use Rattle.pac_log.specs.Reading.{StandsAfter};
 ghost use Rattle.pac_check.specs.declared.damage.SlotDamageKind.{SlotDamageKind as ASlotDamage};
 ghost use Rattle.pac_check.specs.declared.info.SlotName.{SlotName as ASlotName};
 ghost use Rattle.pac_check.specs.SlotStates.{IsSlot};
-ghost use Rattle.pac_store.specs.Images.{IfReadKnown};
+ghost use Rattle.pac_store.specs.Images.{IfImagesKnown};
 ghost use Rattle.pac_recover.specs.declared.errors.Damage.TheVariants.{Log as InLog, Slot as InSlot};
 ghost use Rattle.pac_recover.specs.Damages.{IsDamagedLog};
 ghost use Rattle.pac_recover.specs.Outcomes.{FitsReplayed};
@@ -49,7 +49,7 @@ pub(crate) fn replay_store<D: Disk, T: TableRows, X: Executor>(
     executor: &X,
     devices: &mut Devices<D>,
 ) -> Result<Ended<T>, LoadError>
-    ensures ends { IfOk result (λ ended. IfReadKnown (EndedSo ended) (D.known devices.old.log) (D.known devices.old.slot_a) (D.known devices.old.slot_b)) }
+    ensures ends { IfOk result (λ ended. IfImagesKnown (EndedSo ended) (each D.known devices.old)) }
     ensures ended { IfOk result IsEnded }
     ensures log { IfOk result (λ ended. IfKnown (λ old. HoldsLogUpTo ended.reader.gate old.now.seen) (D.known devices.old.log)) }
     ensures slot_a { IfOk result (λ ended. IfKnown (λ old. IsSlot ended.catalogue.tables ended.slots.a old.now.seen) (D.known devices.old.slot_a)) }

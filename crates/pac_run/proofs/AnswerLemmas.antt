@@ -92,8 +92,9 @@ module _ (asked : Request) (old new : EngineParts) where
       (subst (λ (r : Rules). Closes r old.log.gate.place middle (cut_one r middle whole.rest asked) more new) is.same (closes middle whole.rest is.within))
 
   pub was-handled : (more : List Reply) → ((start : SessionState) (group : List Request) → IsInGroup start group old.session → Closes (rules_of old.session) old.log.gate.place start (cut_one (rules_of old.session) start group asked) more new)
+      → (asked ≡ request.Save → slot_len (rules_of old.session) (state_now old.session) (place_after_group old.log.gate.place old.session.txns) ≤ MAX_SLOT_LEN)
       → durable_of new ≡ new.session.before → WasHandled asked more old new
-  was-handled more closes durable = record { closes = handled-closes more closes; durable = durable }
+  was-handled more closes small durable = record { closes = handled-closes more closes; saves = small; durable = durable }
 
 module _ (asked : Request) (old new : EngineParts) (known known' : Devices (Option DiskHistory)) where
   keeps-one : KeepsEach (commits (rules_of old.session) (state_now old.session) asked) old new known known' → KeepsEach (committed (rules_of old.session) (state_now old.session) (asked ∷ [])) old new known known'

@@ -2,13 +2,16 @@
 use Rattle.std.proofs.Common.{◌≡◌, Option, Some, None, sym, subst}
 use Rattle.pac_value.specs.State.{Tables}
 use Rattle.pac_outside.specs.Disk.{DiskHistory, IfKnown}
+use Rattle.pac_outside.specs.Parts.{reads_of}
+use Rattle.pac_outside.specs.declared.devices.Devices.{Devices}
 use Rattle.pac_types.specs.Typing.{CatalogueState}
 use Rattle.pac_log.specs.declared.position.NextGate.{NextGate}
 use Rattle.pac_log.specs.Logs.{HoldsLog}
 use Rattle.pac_log.specs.Places.{IsAfter}
 use Rattle.pac_check.specs.declared.state.SlotState.{SlotState}
 use Rattle.pac_check.specs.SlotStates.{IsSlot}
-use Rattle.pac_store.specs.Images.{Images, IfReadKnown}
+use Rattle.pac_store.specs.Images.{Images, IfImagesKnown}
+use Rattle.pac_store.proofs.ImageLemmas.{where-known}
 use Rattle.pac_recover.specs.Logs.{HoldsLogUpTo}
 use Rattle.pac_recover.specs.Recovering.{IsRecoveredFrom}
 use Rattle.pac_engine.specs.declared.parts.EngineParts.{EngineParts}
@@ -33,8 +36,6 @@ module _ (engine : EngineParts) (before : CatalogueState) (held : Tables) (end :
     after = subst (λ (g : NextGate). IsAfter up.text up.batches g) (sym gate) up.end;
   }
 
-  pub opened-known : (log a b : Option DiskHistory) → IfKnown (λ h. HoldsLogUpTo end h.now.seen) log → IfReadKnown (IsRecoveredFrom before held end.txns) log a b → IfReadKnown (IsOpenedFrom engine) log a b
-  opened-known None a b up recovered = tt
-  opened-known (Some l) None b up recovered = tt
-  opened-known (Some l) (Some a) None up recovered = tt
-  opened-known (Some l) (Some a) (Some b) up recovered = opened-here (record { log = l.now.seen; slot_a = a.now.seen; slot_b = b.now.seen }) up recovered
+  pub opened-known : (devices : Devices (Option DiskHistory)) → IfKnown (λ h. HoldsLogUpTo end h.now.seen) devices.log → IfImagesKnown (IsRecoveredFrom before held end.txns) devices → IfImagesKnown (IsOpenedFrom engine) devices
+  opened-known devices up recovered = where-known (λ d. IfKnown (λ h. HoldsLogUpTo end h.now.seen) d.log × IfImagesKnown (IsRecoveredFrom before held end.txns) d) (IsOpenedFrom engine)
+      (λ known of. opened-here (reads_of known) of.0 of.1) devices (up, recovered)

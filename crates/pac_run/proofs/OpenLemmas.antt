@@ -10,7 +10,8 @@ use Rattle.pac_outside.specs.declared.devices.Devices.{Devices}
 use Rattle.pac_outside.specs.Devices.{AreImages, AreSettled, RunsAsBefore, IfAllKnown, each}
 use Rattle.pac_outside.specs.Disk.{DiskHistory, IsImage, IfKnown, after_sync, settled}
 use Rattle.pac_outside.specs.GateByte.{OneImage}
-use Rattle.pac_outside.proofs.Runs.{three, run_end}
+use Rattle.pac_outside.specs.Parts.{reads_of}
+use Rattle.pac_outside.proofs.Runs.{run_end}
 use Rattle.pac_types.specs.declared.table.Table.{Table}
 use Rattle.pac_types.specs.Fits.{TxnFits}
 use Rattle.pac_types.specs.Typing.{CatalogueState}
@@ -20,7 +21,8 @@ use Rattle.pac_log.specs.Places.{IsAfter, LogEndsAt}
 use Rattle.pac_log.proofs.OneLog.{one_log}
 use Rattle.pac_check.specs.declared.state.SlotState.{SlotState}
 use Rattle.pac_check.specs.SlotStates.{IsSlot}
-use Rattle.pac_store.specs.Images.{Images, IfReadKnown}
+use Rattle.pac_store.specs.Images.{Images, IfImagesKnown}
+use Rattle.pac_store.proofs.ImageLemmas.{each-becomes, where-known}
 use Rattle.pac_store.specs.Stands.{EndsWith, IsShutOrPrefix, StandsFor}
 use Rattle.pac_recover.specs.declared.errors.Damage.TheVariants.{Log, Slot}
 use Rattle.pac_recover.specs.declared.errors.LoadError.TheVariants as load
@@ -34,7 +36,7 @@ use Rattle.pac_recover.specs.Logs.{HoldsLogUpTo}
 use Rattle.pac_recover.specs.Recovering.{AbortsIn, IsOverIn, IsRecoveredPrefix}
 use Rattle.pac_recover.proofs.StandsLemmas.{recovers-prefix}
 use Rattle.pac_engine.specs.declared.parts.EngineParts.{EngineParts}
-use Rattle.pac_engine.specs.Standing.{EngineStands, HasDevices, durable_of}
+use Rattle.pac_engine.specs.Standing.{HasDevices, StandsOn, durable_of}
 use Rattle.pac_run.specs.Opening.{BeginsOver, IsFresh, IsOpenedFrom, StandsForPrefix}
 
 -- ---- each device by itself
@@ -55,34 +57,25 @@ one-slot tables state (Some h) mid now synced same known =
     let one : OneImage (IsSlot tables state) (settled h.now.seen) = record { one = refl; has = is } in
     subst (λ (t : Option DiskHistory). IfKnown (λ x. OneImage (IsSlot tables state) x.now) t) (sym (same ∙ synced)) one
 
--- what is known of three devices
-pub first-same : (l a b m x y : Option DiskHistory) → three l a b ≡ three m x y → l ≡ m
-first-same l a b m x y same = ap (λ (devices : Devices (Option DiskHistory)). devices.log) same
-
-pub second-same : (l a b m x y : Option DiskHistory) → three l a b ≡ three m x y → a ≡ x
-second-same l a b m x y same = ap (λ (devices : Devices (Option DiskHistory)). devices.slot_a) same
-
-pub third-same : (l a b m x y : Option DiskHistory) → three l a b ≡ three m x y → b ≡ y
-third-same l a b m x y same = ap (λ (devices : Devices (Option DiskHistory)). devices.slot_b) same
-
--- ---- all three
+-- ---- all of them
 
 own-image : (bytes : List ℕ) → IsImage (settled bytes) bytes
 own-image bytes = record { no_shorter = omega arith; no_longer = omega arith; stays = λ place below none. refl }
 
-module _ (engine : EngineParts) (l a b : DiskHistory) (none : engine.session.txns ≡ []) where
-  abbrev images : Images
-  images = record { log = l.now.seen; slot_a = a.now.seen; slot_b = b.now.seen }
+-- devices that are synced
+abbrev pub synced : Devices (Option DiskHistory) → Devices (Option DiskHistory)
+synced devices = each (option_map after_sync) devices
 
-  abbrev entry : Devices DiskHistory
-  entry = three l a b
+module _ (engine : EngineParts) (entry : Devices DiskHistory) (none : engine.session.txns ≡ []) where
+  abbrev images : Images
+  images = reads_of entry
 
   abbrev now : Devices DiskHistory
-  now = three (after_sync l) (after_sync a) (after_sync b)
+  now = each after_sync entry
 
-  module _ (opened : IsOpenedFrom engine (record { log = l.now.seen; slot_a = a.now.seen; slot_b = b.now.seen }))
-      (slot_a : IsSlot engine.session.catalogue.tables engine.slots.a a.now.seen) (slot_b : IsSlot engine.session.catalogue.tables engine.slots.b b.now.seen)
-      (text : List ℕ) (catalogue : CatalogueState) (history : List Txn) (least : ℕ) (is : StandsFor text catalogue history least (record { log = l.now.seen; slot_a = a.now.seen; slot_b = b.now.seen })) where
+  module _ (opened : IsOpenedFrom engine (reads_of entry))
+      (slot_a : IsSlot engine.session.catalogue.tables engine.slots.a entry.slot_a.now.seen) (slot_b : IsSlot engine.session.catalogue.tables engine.slots.b entry.slot_b.now.seen)
+      (text : List ℕ) (catalogue : CatalogueState) (history : List Txn) (least : ℕ) (is : StandsFor text catalogue history least (reads_of entry)) where
     same-log : (text ≡ opened.text) × (catalogue ≡ engine.session.catalogue) × (is.batches ≡ opened.batches)
     same-log = one_log text opened.text catalogue engine.session.catalogue is.batches opened.batches images.log is.log opened.log
 
@@ -98,13 +91,13 @@ module _ (engine : EngineParts) (l a b : DiskHistory) (none : engine.session.txn
     prefix-is : take (durable_of engine) history ≡ all_txns is.batches
     prefix-is = ap (λ (n : ℕ). take n history) counted ∙ ap (take (length (all_txns is.batches))) is.prefix ∙ take-append_seam (all_txns is.batches) is.later
 
-    pub here : EngineStands text (take (durable_of engine) history) engine (after_sync l) (after_sync a) (after_sync b)
+    here : StandsOn text (take (durable_of engine) history) engine now
     here = record {
       batches = is.batches;
-      log = record { one = refl; has = subst (λ (c : CatalogueState). HoldsLog text c is.batches l.now.seen) same-log.1 is.log };
+      log = record { one = refl; has = subst (λ (c : CatalogueState). HoldsLog text c is.batches entry.log.now.seen) same-log.1 is.log };
       after = subst (λ (t : List ℕ). IsAfter t is.batches engine.log.gate) (sym same-log.0) (subst (λ (bs : List (List Txn)). IsAfter opened.text bs engine.log.gate) (sym same-log.2) opened.after);
-      slot_a = record { one = refl; has = subst (λ (c : CatalogueState). IsShutOrPrefix text c is.batches a.now.seen) same-log.1 is.slot_a };
-      slot_b = record { one = refl; has = subst (λ (c : CatalogueState). IsShutOrPrefix text c is.batches b.now.seen) same-log.1 is.slot_b };
+      slot_a = record { one = refl; has = subst (λ (c : CatalogueState). IsShutOrPrefix text c is.batches entry.slot_a.now.seen) same-log.1 is.slot_a };
+      slot_b = record { one = refl; has = subst (λ (c : CatalogueState). IsShutOrPrefix text c is.batches entry.slot_b.now.seen) same-log.1 is.slot_b };
       known_a = slot_a;
       known_b = slot_b;
       fit = subst (λ (c : CatalogueState). All (TxnFits c) (take (durable_of engine) history)) same-log.1 (All-take (TxnFits catalogue) (durable_of engine) history is.executes.fit);
@@ -112,103 +105,81 @@ module _ (engine : EngineParts) (l a b : DiskHistory) (none : engine.session.txn
       split = prefix-is ∙ sym (append-nil (all_txns is.batches)) ∙ ap (λ (t : List Txn). all_txns is.batches ++ t) (sym none);
     }
 
-    pub for-prefix : StandsForPrefix text catalogue history least engine (three (after_sync l) (after_sync a) (after_sync b))
+    for-prefix : StandsForPrefix text catalogue history least engine now
     for-prefix = record { same = sym same-log.1; enough = prefix.enough; within = prefix.within; stands = here }
 
-  begins-all : RunsAsBefore (three l a b) (three (after_sync l) (after_sync a) (after_sync b)) → IsOpenedFrom engine (record { log = l.now.seen; slot_a = a.now.seen; slot_b = b.now.seen })
-      → IsSlot engine.session.catalogue.tables engine.slots.a a.now.seen → IsSlot engine.session.catalogue.tables engine.slots.b b.now.seen → BeginsOver engine (three l a b) (three (after_sync l) (after_sync a) (after_sync b))
+  begins-all : RunsAsBefore entry now → IsOpenedFrom engine (reads_of entry)
+      → IsSlot engine.session.catalogue.tables engine.slots.a entry.slot_a.now.seen → IsSlot engine.session.catalogue.tables engine.slots.b entry.slot_b.now.seen → BeginsOver engine entry now
   begins-all moments opened slot_a slot_b = λ text catalogue history least every.
-      let seen : Images = three l.now.seen a.now.seen b.now.seen in
-      let are : AreImages entry seen = run_end (AreImages entry) entry now moments seen (record { log = own-image l.now.seen; slot_a = own-image a.now.seen; slot_b = own-image b.now.seen }) in
-      for-prefix opened slot_a slot_b text catalogue history least (every seen are)
+      let are : AreImages entry images = run_end (AreImages entry) entry now moments images (record { log = own-image entry.log.now.seen; slot_a = own-image entry.slot_a.now.seen; slot_b = own-image entry.slot_b.now.seen }) in
+      for-prefix opened slot_a slot_b text catalogue history least (every images are)
 
 -- ---- where they are known
 
 -- what an engine is read from
-pub record IsReadFrom (engine : EngineParts) (l a b m x y : Option DiskHistory) : Type 0 where
-  pub runs : IfAllKnown RunsAsBefore (three l a b) (three m x y)
-  pub opened : IfReadKnown (IsOpenedFrom engine) m x y
-  pub slot_a : IfKnown (λ h. IsSlot engine.session.catalogue.tables engine.slots.a h.now.seen) x
-  pub slot_b : IfKnown (λ h. IsSlot engine.session.catalogue.tables engine.slots.b h.now.seen) y
+pub record IsReadFrom (engine : EngineParts) (entry middle : Devices (Option DiskHistory)) : Type 0 where
+  pub runs : IfAllKnown RunsAsBefore entry middle
+  pub opened : IfImagesKnown (IsOpenedFrom engine) middle
+  pub slot_a : IfKnown (λ h. IsSlot engine.session.catalogue.tables engine.slots.a h.now.seen) middle.slot_a
+  pub slot_b : IfKnown (λ h. IsSlot engine.session.catalogue.tables engine.slots.b h.now.seen) middle.slot_b
 
-begins-synced : (engine : EngineParts) (l a b : Option DiskHistory) → engine.session.txns ≡ [] → IsReadFrom engine l a b (option_map after_sync l) (option_map after_sync a) (option_map after_sync b)
-    → IfAllKnown (BeginsOver engine) (three l a b) (three (option_map after_sync l) (option_map after_sync a) (option_map after_sync b))
-begins-synced engine None a b none is = tt
-begins-synced engine (Some l) None b none is = tt
-begins-synced engine (Some l) (Some a) None none is = tt
-begins-synced engine (Some l) (Some a) (Some b) none is = begins-all engine l a b none is.runs is.opened is.slot_a is.slot_b
-
-pub begins-known : (engine : EngineParts) (l a b m x y : Option DiskHistory) (now : Devices (Option DiskHistory)) → engine.session.txns ≡ [] → m ≡ option_map after_sync l → x ≡ option_map after_sync a → y ≡ option_map after_sync b → now ≡ three m x y
-    → IsReadFrom engine l a b m x y → IfAllKnown (BeginsOver engine) (three l a b) now
-begins-known engine l a b m x y now none is_m is_x is_y same is =
-    let there = begins-synced engine l a b none (subst (λ (t : Option DiskHistory). IsReadFrom engine l a b (option_map after_sync l) (option_map after_sync a) t) is_y
-    (subst (λ (t : Option DiskHistory). IsReadFrom engine l a b (option_map after_sync l) t y) is_x (subst (λ (t : Option DiskHistory). IsReadFrom engine l a b t x y) is_m is))) in
-    let all : now ≡ three (option_map after_sync l) (option_map after_sync a) (option_map after_sync b) = cc in
-    subst (λ (t : Devices (Option DiskHistory)). IfAllKnown (BeginsOver engine) (three l a b) t) (sym all) there
+begins-synced : (engine : EngineParts) → engine.session.txns ≡ [] → (entry : Devices (Option DiskHistory)) → IsReadFrom engine entry (synced entry) → IfAllKnown (BeginsOver engine) entry (synced entry)
+begins-synced engine none = each-becomes after_sync (BeginsOver engine) (λ d. IsReadFrom engine d (synced d)) (λ known is. begins-all engine known none is.runs is.opened is.slot_a is.slot_b)
 
 -- a crash now leaves what a read gave at entry
-pub settled-known : (l a b : Option DiskHistory) (now : Devices (Option DiskHistory)) → now ≡ three (option_map after_sync l) (option_map after_sync a) (option_map after_sync b) → IfAllKnown AreSettled (three l a b) now
-settled-known l a b after same = subst (λ (t : Devices (Option DiskHistory)). IfAllKnown AreSettled (three l a b) t) (sym same) (go l a b)
-  where
-    go : (l a b : Option DiskHistory) → IfAllKnown AreSettled (three l a b) (three (option_map after_sync l) (option_map after_sync a) (option_map after_sync b))
-    go None a b = tt
-    go (Some l) None b = tt
-    go (Some l) (Some a) None = tt
-    go (Some l) (Some a) (Some b) = record { log = refl; slot_a = refl; slot_b = refl }
+settled-known : (entry : Devices (Option DiskHistory)) → IfAllKnown AreSettled entry (synced entry)
+settled-known entry = each-becomes after_sync AreSettled (λ d. Unit {0}) (λ known is. record { log = refl; slot_a = refl; slot_b = refl }) entry tt
 
 -- what is read after a sync is what was read before
 pub known-before : (P : DiskHistory → Type 0) → ((h : DiskHistory) → P (after_sync h) → P h) → (old new : Option DiskHistory) → new ≡ option_map after_sync old → IfKnown P new → IfKnown P old
 known-before P back None new same known = tt
 known-before P back (Some h) new same known = back h (subst (λ (t : Option DiskHistory). IfKnown P t) same known)
 
-pub read-before : (P : Images → Type 0) (l a b m x y : Option DiskHistory) → m ≡ option_map after_sync l → x ≡ option_map after_sync a → y ≡ option_map after_sync b → IfReadKnown P m x y → IfReadKnown P l a b
-read-before P l a b m x y is_m is_x is_y known =
-    go l a b (subst (λ (t : Option DiskHistory). IfReadKnown P (option_map after_sync l) (option_map after_sync a) t) is_y (subst (λ (t : Option DiskHistory). IfReadKnown P (option_map after_sync l) t y) is_x (subst (λ (t : Option DiskHistory). IfReadKnown P t x y) is_m known)))
-  where
-    go : (l a b : Option DiskHistory) → IfReadKnown P (option_map after_sync l) (option_map after_sync a) (option_map after_sync b) → IfReadKnown P l a b
-    go None a b known = tt
-    go (Some l) None b known = tt
-    go (Some l) (Some a) None known = tt
-    go (Some l) (Some a) (Some b) known = known
+pub read-before : (P : Images → Type 0) (entry : Devices (Option DiskHistory)) → IfImagesKnown P (synced entry) → IfImagesKnown P entry
+read-before P entry = where-known (λ d. IfImagesKnown P (synced d)) P (λ known of. of) entry
 
 -- what is refused of the devices after a sync is refused of what they held before it
-pub refused-before : (limit : ℕ) (l a b m x y : Option DiskHistory) → m ≡ option_map after_sync l → x ≡ option_map after_sync a → y ≡ option_map after_sync b → (error : RecoverError) → AreRefused limit (three m x y) error → AreRefused limit (three l a b) error
-refused-before limit l a b m x y is_m is_x is_y (recover.Load load.NoStore) refused = known-before (λ h. (text : List ℕ) (catalogue : CatalogueState) → IsStore text catalogue h.now.seen → ⊥) (λ h p. p) l m is_m refused
-refused-before limit l a b m x y is_m is_x is_y (recover.Load (load.Damaged (Log at kind))) refused = known-before (λ h. IsDamagedLog at kind h.now.seen) (λ h p. p) l m is_m refused
-refused-before limit l a b m x y is_m is_x is_y (recover.Load (load.Damaged (Slot slot at kind))) refused = read-before (IsDamagedSlot slot at kind) l a b m x y is_m is_x is_y refused
-refused-before limit l a b m x y is_m is_x is_y (recover.Load load.DiskFault) refused = tt
-refused-before limit l a b m x y is_m is_x is_y (recover.Load load.NoMemory) refused = tt
-refused-before limit l a b m x y is_m is_x is_y (recover.AbortInLog note) refused = read-before (AbortsIn note) l a b m x y is_m is_x is_y refused
-refused-before limit l a b m x y is_m is_x is_y (recover.RowsOver table rows most) refused = (refused.0, read-before (IsOverIn table rows limit) l a b m x y is_m is_x is_y refused.1)
+refused-before : (limit : ℕ) (entry : Devices (Option DiskHistory)) (error : RecoverError) → AreRefused limit (synced entry) error → AreRefused limit entry error
+refused-before limit entry (recover.Load load.NoStore) refused = known-before (λ h. (text : List ℕ) (catalogue : CatalogueState) → IsStore text catalogue h.now.seen → ⊥) (λ h p. p) entry.log (option_map after_sync entry.log) refl refused
+refused-before limit entry (recover.Load (load.Damaged (Log at kind))) refused = known-before (λ h. IsDamagedLog at kind h.now.seen) (λ h p. p) entry.log (option_map after_sync entry.log) refl refused
+refused-before limit entry (recover.Load (load.Damaged (Slot slot at kind))) refused = read-before (IsDamagedSlot slot at kind) entry refused
+refused-before limit entry (recover.Load load.DiskFault) refused = tt
+refused-before limit entry (recover.Load load.NoMemory) refused = tt
+refused-before limit entry (recover.AbortInLog note) refused = read-before (AbortsIn note) entry refused
+refused-before limit entry (recover.RowsOver table rows most) refused = (refused.0, read-before (IsOverIn table rows limit) entry refused.1)
 
 -- ---- what is opened
 
-module _ {D : Type 0} (known : D → Option DiskHistory) (devices : Devices D) (l a b m x y : Option DiskHistory) (is_m : m ≡ option_map after_sync l) (is_x : x ≡ option_map after_sync a) (is_y : y ≡ option_map after_sync b) (same : each known devices ≡ three m x y) where
-  pub opened-ready : (r : Result EngineParts RecoverError) → IfOk r (λ e. IfKnown (λ h. HoldsLogUpTo e.log.gate h.now.seen) m) → IfOk r (λ e. IfKnown (λ h. IsSlot e.session.catalogue.tables e.slots.a h.now.seen) x)
-      → IfOk r (λ e. IfKnown (λ h. IsSlot e.session.catalogue.tables e.slots.b h.now.seen) y) → IfOk r (λ e. HasDevices known e devices)
-  opened-ready (Err error) log slot_a slot_b = tt
-  opened-ready (Ok e) log slot_a slot_b = record {
-    log = one-log e.log.gate l m (known devices.log) is_m (first-same _ _ _ _ _ _ same) log;
-    slot_a = one-slot e.session.catalogue.tables e.slots.a a x (known devices.slot_a) is_x (second-same _ _ _ _ _ _ same) slot_a;
-    slot_b = one-slot e.session.catalogue.tables e.slots.b b y (known devices.slot_b) is_y (third-same _ _ _ _ _ _ same) slot_b;
-  }
+module _ (entry middle now : Devices (Option DiskHistory)) (as_synced : middle ≡ synced entry) (same : now ≡ middle) where
+  now_is : now ≡ synced entry
+  now_is = same ∙ as_synced
 
-  pub opened-begins : (batch limit : ℕ) (r : Result EngineParts RecoverError) → IfOk r (IsFresh batch limit) → IfAllKnown RunsAsBefore (three l a b) (three m x y) → IfOk r (λ e. IfReadKnown (IsOpenedFrom e) m x y)
-      → IfOk r (λ e. IfKnown (λ h. IsSlot e.session.catalogue.tables e.slots.a h.now.seen) x) → IfOk r (λ e. IfKnown (λ h. IsSlot e.session.catalogue.tables e.slots.b h.now.seen) y)
-      → IfOk r (λ e. IfAllKnown (BeginsOver e) (three l a b) (each known devices))
+  pub opened-ready : {D : Type 0} (known : D → Option DiskHistory) (devices : Devices D) → each known devices ≡ now → (r : Result EngineParts RecoverError) → IfOk r (λ e. IfKnown (λ h. HoldsLogUpTo e.log.gate h.now.seen) middle.log)
+      → IfOk r (λ e. IfKnown (λ h. IsSlot e.session.catalogue.tables e.slots.a h.now.seen) middle.slot_a) → IfOk r (λ e. IfKnown (λ h. IsSlot e.session.catalogue.tables e.slots.b h.now.seen) middle.slot_b) → IfOk r (λ e. HasDevices known e devices)
+  opened-ready known devices are (Err error) log slot_a slot_b = tt
+  opened-ready known devices are (Ok e) log slot_a slot_b =
+      let all : each known devices ≡ middle = are ∙ same in
+      record {
+        log = one-log e.log.gate entry.log middle.log (known devices.log) (ap (λ (d : Devices (Option DiskHistory)). d.log) as_synced) (ap (λ (d : Devices (Option DiskHistory)). d.log) all) log;
+        slot_a = one-slot e.session.catalogue.tables e.slots.a entry.slot_a middle.slot_a (known devices.slot_a) (ap (λ (d : Devices (Option DiskHistory)). d.slot_a) as_synced) (ap (λ (d : Devices (Option DiskHistory)). d.slot_a) all) slot_a;
+        slot_b = one-slot e.session.catalogue.tables e.slots.b entry.slot_b middle.slot_b (known devices.slot_b) (ap (λ (d : Devices (Option DiskHistory)). d.slot_b) as_synced) (ap (λ (d : Devices (Option DiskHistory)). d.slot_b) all) slot_b;
+      }
+
+  pub opened-begins : (batch limit : ℕ) (r : Result EngineParts RecoverError) → IfOk r (IsFresh batch limit) → IfAllKnown RunsAsBefore entry middle → IfOk r (λ e. IfImagesKnown (IsOpenedFrom e) middle)
+      → IfOk r (λ e. IfKnown (λ h. IsSlot e.session.catalogue.tables e.slots.a h.now.seen) middle.slot_a) → IfOk r (λ e. IfKnown (λ h. IsSlot e.session.catalogue.tables e.slots.b h.now.seen) middle.slot_b)
+      → IfOk r (λ e. IfAllKnown (BeginsOver e) entry now)
   opened-begins batch limit (Err error) fresh moments opened slot_a slot_b = tt
-  opened-begins batch limit (Ok e) fresh moments opened slot_a slot_b = begins-known e l a b m x y (each known devices) fresh.txns is_m is_x is_y same (record { runs = moments; opened = opened; slot_a = slot_a; slot_b = slot_b })
+  opened-begins batch limit (Ok e) fresh moments opened slot_a slot_b =
+      let read : IsReadFrom e entry middle = record { runs = moments; opened = opened; slot_a = slot_a; slot_b = slot_b } in
+      subst (λ (d : Devices (Option DiskHistory)). IfAllKnown (BeginsOver e) entry d) (sym now_is) (begins-synced e fresh.txns entry (subst (λ (d : Devices (Option DiskHistory)). IsReadFrom e entry d) as_synced read))
 
-  pub opened-before : (r : Result EngineParts RecoverError) → IfOk r (λ e. IfReadKnown (IsOpenedFrom e) m x y) → IfOk r (λ e. IfReadKnown (IsOpenedFrom e) l a b)
+  pub opened-before : (r : Result EngineParts RecoverError) → IfOk r (λ e. IfImagesKnown (IsOpenedFrom e) middle) → IfOk r (λ e. IfImagesKnown (IsOpenedFrom e) entry)
   opened-before (Err error) opened = tt
-  opened-before (Ok e) opened = read-before (IsOpenedFrom e) l a b m x y is_m is_x is_y opened
+  opened-before (Ok e) opened = read-before (IsOpenedFrom e) entry (subst (λ (d : Devices (Option DiskHistory)). IfImagesKnown (IsOpenedFrom e) d) as_synced opened)
 
-  pub settled-before : IfAllKnown AreSettled (three l a b) (each known devices)
-  settled-before = settled-known l a b (each known devices) (all-same (each known devices) m x y l a b same is_m is_x is_y)
-    where
-      all-same : (t : Devices (Option DiskHistory)) (m x y l a b : Option DiskHistory) → t ≡ three m x y → m ≡ option_map after_sync l → x ≡ option_map after_sync a → y ≡ option_map after_sync b → t ≡ three (option_map after_sync l) (option_map after_sync a) (option_map after_sync b)
-      all-same t m x y l a b e is_m is_x is_y = cc
+  pub settled-before : IfAllKnown AreSettled entry now
+  settled-before = subst (λ (d : Devices (Option DiskHistory)). IfAllKnown AreSettled entry d) (sym now_is) (settled-known entry)
 
-  pub refused-opened : (limit : ℕ) (r : Result EngineParts RecoverError) → IfErr r (AreRefused limit (three m x y)) → IfErr r (AreRefused limit (three l a b))
+  pub refused-opened : (limit : ℕ) (r : Result EngineParts RecoverError) → IfErr r (AreRefused limit middle) → IfErr r (AreRefused limit entry)
   refused-opened limit (Ok e) refused = tt
-  refused-opened limit (Err error) refused = refused-before limit l a b m x y is_m is_x is_y error refused
+  refused-opened limit (Err error) refused = refused-before limit entry error (subst (λ (d : Devices (Option DiskHistory)). AreRefused limit d error) as_synced refused)

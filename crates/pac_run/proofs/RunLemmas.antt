@@ -1,5 +1,5 @@
 -- The whole run.
-use Rattle.std.proofs.Common.{◌≡◌, ◌∙◌, ◌⊎◌, inl, inr, ℕ, List, [], ◌++◌, length, take, Option, Some, None, Result, Ok, Err, OnOk, refl, sym, ap, subst, arith, append_assoc, drop}
+use Rattle.std.proofs.Common.{◌≡◌, ◌∙◌, ◌⊎◌, inl, inr, ℕ, List, [], ◌∷◌, ◌++◌, length, take, Option, Some, None, Result, Ok, Err, OnOk, refl, sym, ap, subst, arith, append_assoc, drop}
 use Rattle.std.specs.Prelude.{IfErr, IfSome, IsErrOf, MatchResult}
 use Rattle.std.specs.FinMap.{empty}
 use Rattle.std.proofs.KnownBytes.{prepend_known-nil}
@@ -10,7 +10,7 @@ use Rattle.pac_ops.specs.declared.transaction.Txn.{Txn}
 use Rattle.pac_outside.specs.Devices.{AreImages, RunsAsBefore, OnceKnown, IfAllKnown, all_known}
 use Rattle.pac_outside.specs.Disk.{DiskHistory, DiskState, IfKnown, settled}
 use Rattle.pac_outside.specs.Parts.{OfLog, known_read, known_reads, reads_of, slots_of}
-use Rattle.pac_outside.proofs.Runs.{three, run_end, run_then, weaken_run}
+use Rattle.pac_outside.proofs.Runs.{run_end, run_then, weaken_run}
 use Rattle.pac_outside.specs.declared.devices.Devices.{Devices}
 use Rattle.pac_log.specs.declared.position.NextGate.{NextGate}
 use Rattle.pac_log.specs.Places.{LogEndsAt}
@@ -18,9 +18,11 @@ use Rattle.pac_log.specs.Torn.{LogEndsAtEither}
 use Rattle.pac_types.specs.CatalogueText.{HasCatalogue}
 use Rattle.pac_types.specs.Execution.{first_over}
 use Rattle.pac_types.specs.Typing.{CatalogueState}
-use Rattle.pac_store.specs.Images.{Images, IfReadKnown}
+use Rattle.pac_store.specs.Images.{Images, IfImagesKnown}
+use Rattle.pac_store.proofs.ImageLemmas.{images-any, images-then}
 use Rattle.pac_store.specs.Stands.{StandsFor}
 use Rattle.pac_request.specs.declared.request.Request.{Request}
+use Rattle.pac_request.specs.declared.request.Request.TheVariants as request
 use Rattle.pac_request.specs.declared.request.Reply.{Reply}
 use Rattle.pac_report.specs.Replies.{reply_text}
 use Rattle.pac_session.specs.Session.{Rules, SessionState, committed, replies}
@@ -33,7 +35,7 @@ use Rattle.pac_run.specs.declared.stop.RunStop.{RunStop}
 use Rattle.pac_run.specs.declared.stop.RunStop.TheVariants.{LogFull, Opening}
 use Rattle.pac_run.specs.Asked.{WereHandled}
 use Rattle.pac_run.specs.Opening.{AllStand, BeginsOver, IsFresh, IsOpenedFrom, StandsForPrefix}
-use Rattle.pac_run.specs.Run.{AtExit, AtMoments, IsBegun, IsExit, IsRun, IsWholeRun, IfSeenKnown, LogHas, LogHasEither, history_after}
+use Rattle.pac_run.specs.Run.{AtExit, AtMoments, IsBegun, IsExit, IsRun, IsWholeRun, LogHas, LogHasEither, history_after}
 use Rattle.pac_run.specs.Serving.{IsDone, Served}
 use Rattle.pac_run.specs.Stopping.{AreFirst, EndsGroups, HasWorked, IsStopped, IsStoppedAt, IsTorn, IsUnopened, StopsOpening, StopsThere}
 use Rattle.pac_run.specs.Texts.{IsTextPrefix, texts}
@@ -57,11 +59,12 @@ prefix-of-all catalogue given all out prefix firsts =
 
 -- ---- a store that isn't opened
 
-none-begun : (P : Images → Type 0) (error : RecoverError) (l a b : Option DiskHistory) → IfSeenKnown (λ images. IsUnopened (Err (Opening error)) [] ⊎ P images) (three l a b)
-none-begun P error None a b = tt
-none-begun P error (Some l) None b = tt
-none-begun P error (Some l) (Some a) None = tt
-none-begun P error (Some l) (Some a) (Some b) = inl ((error, refl), refl)
+none-begun : (P : Images → Type 0) (error : RecoverError) (known : Devices (Option DiskHistory)) → IfImagesKnown (λ images. IsUnopened (Err (Opening error)) [] ⊎ P images) known
+none-begun P error known = images-any (λ images. IsUnopened (Err (Opening error)) [] ⊎ P images) (λ images. inl ((error, refl), refl)) known
+
+none-saved : (before rest : List Request) → [] ≡ before ++ request.Save ∷ rest → ⊥
+none-saved [] rest e = absurd cc
+none-saved (b ∷ bs) rest e = absurd cc
 
 none-handled : (left : Option (List ℕ)) → WereHandled left [] [] left
 none-handled None = tt
@@ -103,9 +106,9 @@ slots-seen known known' same = ap (λ (reads : Devices (Option (List ℕ))). slo
 slots-uncalled : (known known' : Devices (Option DiskHistory)) → slots_of known' ≡ slots_of known → slots_of (known_reads known') ≡ slots_of (known_reads known)
 slots-uncalled known known' same = ap (λ (slots : Option DiskHistory × Option DiskHistory). (known_read slots.0, known_read slots.1)) same
 
-module _ (batch limit : ℕ) (left held : Option (List ℕ)) (l a b : Option DiskHistory) (known' : Devices (Option DiskHistory)) (faulted : Type 0) (error : RecoverError) (runs : IfAllKnown RunsAsBefore (three l a b) known')
-    (seen : known_reads known' ≡ known_reads (three l a b)) where
-  unopened : IsRun batch limit left left held held (three l a b) known' faulted (Err (Opening error))
+module _ (batch limit : ℕ) (left held : Option (List ℕ)) (known known' : Devices (Option DiskHistory)) (faulted : Type 0) (error : RecoverError) (runs : IfAllKnown RunsAsBefore known known')
+    (seen : known_reads known' ≡ known_reads known) where
+  unopened : IsRun batch limit left left held held known known' faulted (Err (Opening error))
   unopened =
       let rules : Rules = record { catalogue = record { tables = []; procs = [] }; limit = limit; most = batch } in
       let start : SessionState = record { tables = empty; number = 0 } in
@@ -127,7 +130,7 @@ module _ (batch limit : ℕ) (left held : Option (List ℕ)) (l a b : Option Dis
         most = refl;
         start = start;
         place = 0;
-        begun = none-begun (IsBegun rules 0 start) error l a b;
+        begun = none-begun (IsBegun rules 0 start) error known;
         prefix = record { count = 0; is = refl };
         whole = tt;
         exit = λ text catalogue history least. as-before (AllStand text catalogue history least) (AtExit text catalogue history rules 0 start [] []) (λ u v run stands. inl (refl, λ images are. run_end (AreImages u) u v run images are)) _ _ runs;
@@ -136,17 +139,19 @@ module _ (batch limit : ℕ) (left held : Option (List ℕ)) (l a b : Option Dis
         given = [];
         written = record { count = 0; is = refl };
         all = inl refl;
+        fit = inl (record { before = []; rest = []; split = refl; replied = refl; fit = tt });
+        saves = λ before rest same handled. absurd (none-saved before rest same);
         stopped = inl ((error, refl), refl, refl);
         exact = λ worked. absurd worked;
         full = λ need full. absurd cc;
         torn = λ disk. absurd cc;
-        slots = λ none. slots-seen (three l a b) known' seen;
+        slots = λ none. slots-seen known known' seen;
         still = λ none. seen;
         there = inl ((error, refl), refl);
       }
 
-  pub not-opened : (stop : RunStop) → stop ≡ Opening error → IsRun batch limit left left held held (three l a b) known' faulted (Err stop)
-  not-opened stop is = subst (λ (s : RunStop). IsRun batch limit left left held held (three l a b) known' faulted (Err s)) (sym is) unopened
+  pub not-opened : (stop : RunStop) → stop ≡ Opening error → IsRun batch limit left left held held known known' faulted (Err stop)
+  not-opened stop is = subst (λ (s : RunStop). IsRun batch limit left left held held known known' faulted (Err s)) (sym is) unopened
 
 -- ---- one that is
 
@@ -158,9 +163,9 @@ stops-part : (run : Result (Unit {0}) RunStop) (P : Type 0) (R S : RunStop → T
 stops-part (Ok x) P R S is step = tt
 stops-part (Err stop) P R S is step = step stop is
 
-module _ (batch limit : ℕ) (engine new : EngineParts) (left left' held held' : Option (List ℕ)) (l a b : Option DiskHistory) (middle known' : Devices (Option DiskHistory)) (faulted : Type 0) (result : Result (Unit {0}) RunStop) (fresh : IsFresh batch limit engine)
-    (within : first_over limit (length engine.session.catalogue.tables) engine.session.tables ≡ None) (opened : IfReadKnown (IsOpenedFrom engine) l a b) (begins : IfAllKnown (BeginsOver engine) (three l a b) middle) (runs : IfAllKnown RunsAsBefore (three l a b) middle)
-    (seen : known_reads middle ≡ known_reads (three l a b)) (served : Served engine new left left' held held' middle known' faulted result) (ended : HasWorked result → OfLog (LogEndsAt new.log.gate) known') (full : (need : ℕ) → IsErrOf result (LogFull need) → OfLog (LogEndsAt new.log.gate) known') where
+module _ (batch limit : ℕ) (engine new : EngineParts) (left left' held held' : Option (List ℕ)) (known middle known' : Devices (Option DiskHistory)) (faulted : Type 0) (result : Result (Unit {0}) RunStop) (fresh : IsFresh batch limit engine)
+    (within : first_over limit (length engine.session.catalogue.tables) engine.session.tables ≡ None) (opened : IfImagesKnown (IsOpenedFrom engine) known) (begins : IfAllKnown (BeginsOver engine) known middle) (runs : IfAllKnown RunsAsBefore known middle)
+    (seen : known_reads middle ≡ known_reads known) (served : Served engine new left left' held held' middle known' faulted result) (ended : HasWorked result → OfLog (LogEndsAt new.log.gate) known') (full : (need : ℕ) → IsErrOf result (LogFull need) → OfLog (LogEndsAt new.log.gate) known') where
   abbrev rules : Rules
   rules = rules_of engine.session
 
@@ -180,17 +185,11 @@ module _ (batch limit : ℕ) (engine new : EngineParts) (left left' held held' :
     within = subst (λ (n : ℕ). first_over n (length engine.session.catalogue.tables) engine.session.tables ≡ None) (sym fresh.within) within;
   }
 
-  begun-seen : (l a b : Option DiskHistory) → IfReadKnown (IsOpenedFrom engine) l a b → IfSeenKnown (IsBegun (rules_of engine.session) engine.log.gate.place (state_now engine.session)) (three l a b)
-  begun-seen None a b is = tt
-  begun-seen (Some l) None b is = tt
-  begun-seen (Some l) (Some a) None is = tt
-  begun-seen (Some l) (Some a) (Some b) is = begun-here (record { log = l.now.seen; slot_a = a.now.seen; slot_b = b.now.seen }) is
+  begun-seen : IfImagesKnown (IsBegun (rules_of engine.session) engine.log.gate.place (state_now engine.session)) known
+  begun-seen = images-then (IsOpenedFrom engine) (IsBegun (rules_of engine.session) engine.log.gate.place (state_now engine.session)) begun-here known opened
 
-  begun-known : (l a b : Option DiskHistory) → IfReadKnown (IsOpenedFrom engine) l a b → IfSeenKnown (λ images. IsUnopened result served.requests ⊎ IsBegun (rules_of engine.session) engine.log.gate.place (state_now engine.session) images) (three l a b)
-  begun-known None a b is = tt
-  begun-known (Some l) None b is = tt
-  begun-known (Some l) (Some a) None is = tt
-  begun-known (Some l) (Some a) (Some b) is = inr (begun-here (record { log = l.now.seen; slot_a = a.now.seen; slot_b = b.now.seen }) is)
+  begun-known : IfImagesKnown (λ images. IsUnopened result served.requests ⊎ IsBegun (rules_of engine.session) engine.log.gate.place (state_now engine.session) images) known
+  begun-known = images-then (IsOpenedFrom engine) (λ images. IsUnopened result served.requests ⊎ IsBegun (rules_of engine.session) engine.log.gate.place (state_now engine.session) images) (λ images is. inr (begun-here images is)) known opened
 
   module _ (text : List ℕ) (catalogue : CatalogueState) (history : List Txn) (least : ℕ) where
     abbrev after : List Txn
@@ -256,7 +255,7 @@ module _ (batch limit : ℕ) (engine new : EngineParts) (left left' held held' :
   then-there (Ok done) is = tt
   then-there (Err stop) is = inr is
 
-  pub is-run : IsRun batch limit left left' held held' (three l a b) known' faulted result
+  pub is-run : IsRun batch limit left left' held held' known known' faulted result
   is-run = record {
     lines = served.lines;
     ahead = served.ahead;
@@ -275,20 +274,22 @@ module _ (batch limit : ℕ) (engine new : EngineParts) (left left' held held' :
     most = fresh.most;
     start = start;
     place = engine.log.gate.place;
-    begun = begun-known l a b opened;
+    begun = begun-known;
     prefix = prefix-of-all engine.session.catalogue served.given (replies rules start served.requests) served.out served.prefix served.firsts;
     whole = three-parts result (IsDone rules engine.log.gate.place start served.requests served.given served.out) (IsWholeRun rules engine.log.gate.place start served.requests served.out) (λ stop. IsStoppedAt rules engine.log.gate.place start served.requests served.given stop) served.ending
-        (λ done. record { before = done.before; stops = done.stops; written = done.written ∙ ap (texts engine.session.catalogue) done.replied; fit = done.fit; saves = done.saves });
-    exit = λ text catalogue history least. exit-known text catalogue history least (all_known (three l a b)) (all_known middle) (all_known known') (begun-seen l a b opened) begins (served.keeps text (take (durable_of engine) history));
-    moments = λ text catalogue history least. moments-known text catalogue history least (all_known (three l a b)) (all_known middle) (all_known known') begins runs (served.keeps text (take (durable_of engine) history));
+        (λ done. record { before = done.before; stops = done.stops; written = done.written ∙ ap (texts engine.session.catalogue) done.replied; fit = done.fit });
+    exit = λ text catalogue history least. exit-known text catalogue history least (all_known known) (all_known middle) (all_known known') begun-seen begins (served.keeps text (take (durable_of engine) history));
+    moments = λ text catalogue history least. moments-known text catalogue history least (all_known known) (all_known middle) (all_known known') begins runs (served.keeps text (take (durable_of engine) history));
     given = served.given;
     written = served.prefix;
     all = served.whole;
+    fit = served.fit;
+    saves = served.saves;
     exact = λ worked. log-has-one rules engine.log.gate.place start served.requests new.log.gate (served.durable worked) known' (ended worked);
     full = λ need is. let last = served.full need is in (last.0, last.1, last.2, log-has-one rules engine.log.gate.place start last.0 new.log.gate last.3 known' (full need is));
     torn = λ is. let last = served.torn is in (last.0, last.1, last.2, log-has-either rules engine.log.gate.place start last.0 served.requests known' last.3);
-    slots = λ none. slots-uncalled middle known' (served.slots none) ∙ slots-seen (three l a b) middle seen;
-    still = λ none. ap (λ (known : Devices (Option DiskHistory)). known_reads known) (served.still none) ∙ seen;
+    slots = λ none. slots-uncalled middle known' (served.slots none) ∙ slots-seen known middle seen;
+    still = λ none. ap (λ (devices : Devices (Option DiskHistory)). known_reads devices) (served.still none) ∙ seen;
     there = then-there result served.there;
     stopped = stops-part result (IsDone rules engine.log.gate.place start served.requests served.given served.out) (λ stop. IsStoppedAt rules engine.log.gate.place start served.requests served.given stop) (λ stop. IsStopped rules engine.log.gate.place start served.requests served.given stop) served.ending (λ stop at. inr at);
   }

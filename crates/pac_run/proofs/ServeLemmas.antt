@@ -1,6 +1,7 @@
 -- Lines that are served one after another, up to an end.
 use Rattle.std.proofs.Common.{◌≡◌, ◌∙◌, ◌⊎◌, inl, inr, ℕ, ◌+◌, ◌<◌, true, false, List, [], ◌∷◌, ◌++◌, length, take, Option, Some, None, Result, Ok, Err, refl, sym, ap, subst}
 use Rattle.std.specs.Io.KnownBytes.{prepend_known}
+use Rattle.std.specs.List.{AllByRecursion}
 use Rattle.std.proofs.lemmas.List.{append-nil}
 use Rattle.std.proofs.lemmas.List.Sums.{fold-append}
 use Rattle.std.proofs.lemmas.Grind.{flat_map-append}
@@ -20,22 +21,22 @@ use Rattle.pac_request.specs.declared.request.Request.TheVariants as request
 use Rattle.pac_request.specs.declared.request.Reply.{Reply}
 use Rattle.pac_report.specs.Replies.{reply_text}
 use Rattle.pac_session.specs.Session.{Rules, SessionState, ends, replies}
-use Rattle.pac_session.specs.Groups.{GroupCut, all_requests, cut, cut_on, cut_one}
+use Rattle.pac_session.specs.Groups.{GroupCut, all_requests, cut, cut_on, cut_one, described}
 use Rattle.pac_session.specs.Open.{rules_of, state_now}
 use Rattle.pac_engine.specs.declared.parts.EngineParts.{EngineParts}
-use Rattle.pac_engine.specs.Closing.{IsGateAfter, IsKept}
+use Rattle.pac_engine.specs.Closing.{GroupFits, IsGateAfter, IsKept}
 use Rattle.pac_engine.specs.Committing.{gate_past}
 use Rattle.pac_engine.proofs.StepLemmas.{checkpoint-gate}
 use Rattle.pac_run.specs.declared.limits.TheConstants.{MAX_INPUT}
 use Rattle.pac_run.specs.declared.stop.RunStop.{RunStop}
 use Rattle.pac_run.specs.declared.stop.RunStop.TheVariants.{Opening, InputFault, OutputFault, DiskFault, NoMemory, LogFull, TooLong, TooLarge}
 use Rattle.pac_run.specs.Asked.{WereAsked, IsOverLong, TookAtMost, WereHandled}
-use Rattle.pac_run.specs.Serving.{Broke, KeepsGate, LineServed, Replied, Served, Serving}
-use Rattle.pac_run.specs.Stopping.{EndsGroups, HasWorked, IsStoppedAt, IsTorn, StepStops}
+use Rattle.pac_run.specs.Serving.{Broke, KeepsGate, LineServed, Replied, Served, Serving, WasHandled}
+use Rattle.pac_run.specs.Stopping.{EndsGroups, HandledLast, HasWorked, IsStoppedAt, IsTorn, SaveFits, SavesFit, StepStops, closed_groups}
 use Rattle.pac_run.specs.Texts.{IsTextPrefix, IsPlain, texts}
 use Rattle.pac_run.proofs.ReadLemmas.{lines-ask, more-read}
-use Rattle.pac_run.proofs.StepLemmas.{all-both, both-parts, cut-more, gate-more, gate-reached, goes-more, grown-then, keeps-more, kept-grows, never-none}
-use Rattle.pac_run.proofs.StopLemmas.{all-replied, never-stops, no-stop-both, stopped-first, stopped-more, stopped-reading, stops-last, stops-there, there-reading}
+use Rattle.pac_run.proofs.StepLemmas.{all-both, both-parts, cut-more, data-free, gate-more, gate-reached, goes-more, grown-then, keeps-more, kept-grows, never-none, save-room}
+use Rattle.pac_run.proofs.StopLemmas.{all-fit, all-replied, never-stops, no-stop-both, stopped-first, stopped-fit, stopped-more, stopped-reading, stops-last, stops-there, there-reading}
 
 -- ---- what was written
 
@@ -77,6 +78,17 @@ worked-stop (Opening error) worked input long = absurd worked
 worked-stop DiskFault worked input long = absurd worked
 worked-stop NoMemory worked input long = absurd worked
 worked-stop (LogFull need) worked input long = absurd worked
+
+-- the last request was handled to its end, where a step was the last: the output failed
+output-stop : (stop : RunStop) → HandledLast {A = Unit {0}} (Err stop) → (stop ≡ InputFault → ⊥) → (stop ≡ TooLong → ⊥) → stop ≡ OutputFault
+output-stop OutputFault handled input long = refl
+output-stop InputFault handled input long = absurd (input refl)
+output-stop TooLong handled input long = absurd (long refl)
+output-stop (Opening error) handled input long = absurd handled
+output-stop DiskFault handled input long = absurd handled
+output-stop NoMemory handled input long = absurd handled
+output-stop (LogFull need) handled input long = absurd handled
+output-stop (TooLarge bytes) handled input long = absurd handled
 
 -- no line that isn't read stops a run by a full log
 reads-on : (stop : RunStop) → (stop ≡ InputFault) ⊎ ((stop ≡ TooLong) ⊎ (stop ≡ NoMemory)) → (need : ℕ) → ◌≡◌ {A = Result (Unit {0}) RunStop} (Err stop) (Err (LogFull need)) → ⊥
@@ -151,6 +163,8 @@ module _ (first now : EngineParts) (left mid : Option (List ℕ)) (reader : Read
           torn = λ is. absurd (reads-disk stop why is);
           slots = serving.goes.slots;
           still = serving.goes.still;
+          fit = all-fit (closed_groups rules place start serving.requests) serving.given serving.goes.closes.replied serving.goes.closes.fit;
+          saves = λ before rest same handled. serving.goes.saves before rest same;
           there = there-reading first now serving.requests serving.given known known' serving.goes stop why;
         }
 
@@ -201,6 +215,8 @@ module _ (first now : EngineParts) (left mid : Option (List ℕ)) (reader : Read
       torn = λ is. (serving.requests, asks, refl, torn-here (same-disk is));
       slots = λ none. let parts = both-parts (λ r. r ≡ request.Save → ⊥) serving.requests (asks ∷ []) none in broke.slots parts.1.0 ∙ serving.goes.slots parts.0;
       still = λ none. absurd (never-none serving.requests asks none);
+      fit = stopped-fit rules place start (serving.requests ++ asks ∷ []) (serving.given ++ broke.more) stop stopped at long-at fit-at;
+      saves = saves-fit;
       there = stops-there first now serving.requests serving.given known known' serving.goes asks broke.more stop broke.stops broke.out;
     }
       where
@@ -240,6 +256,22 @@ module _ (first now : EngineParts) (left mid : Option (List ℕ)) (reader : Read
             let closes = handled.closes rules place start whole serving.given serving.goes.closes in
             let after : IsGateAfter rules place start (cut_on rules start whole asks).closed new.log.gate = record { counted = handled.durable ∙ sym closes.within.begun; there = closes.there } in
             subst (λ (c : GroupCut). IsGateAfter rules place start c.closed new.log.gate) (sym (cut-more first now serving.requests serving.given known known' serving.goes (asks ∷ []))) after
+
+        fit-at : stop ≡ OutputFault → AllByRecursion GroupFits (closed_groups (rules_of first.session) first.log.gate.place (state_now first.session) (serving.requests ++ asks ∷ []))
+        fit-at out = subst (λ (c : GroupCut). AllByRecursion GroupFits (described rules place start c.closed)) (sym (cut-more first now serving.requests serving.given known known' serving.goes (asks ∷ [])))
+            ((broke.handled out).closes rules place start whole serving.given serving.goes.closes).fit
+
+        save-at : stop ≡ OutputFault → asks ≡ request.Save → SaveFits (rules_of first.session) first.log.gate.place (state_now first.session) serving.requests
+        save-at out is =
+            let handled : WasHandled request.Save broke.more now new = subst (λ (r : Request). WasHandled r broke.more now new) is (broke.handled out) in
+            save-room first now serving.requests serving.given known known' serving.goes broke.more new handled.closes (handled.saves refl)
+
+        saves-fit : SavesFit {A = Unit {0}} (rules_of first.session) first.log.gate.place (state_now first.session) (serving.requests ++ asks ∷ []) (Err stop)
+        saves-fit before rest same handled = by (data-free serving.requests before rest asks request.Save same)
+          where
+            by : ((before ≡ serving.requests) × (asks ≡ request.Save) × (rest ≡ [])) ⊎ ((others : List Request) × (serving.requests ≡ before ++ request.Save ∷ others)) → SaveFits rules place start before
+            by (inl here) = subst (λ (l : List Request). SaveFits rules place start l) (sym here.0) (save-at (output-stop stop (handled here.2) at long-at) here.1)
+            by (inr earlier) = serving.goes.saves before earlier.0 earlier.1
 
         -- of a device that failed: the log ends where it ended, or after the group that the last request closes
         torn-here : stop ≡ DiskFault → IsTorn (rules_of first.session) first.log.gate.place (state_now first.session) serving.requests (serving.requests ++ asks ∷ []) known''
@@ -289,12 +321,14 @@ module _ (first now : EngineParts) (left mid : Option (List ℕ)) (reader : Read
         kept = goes.kept;
         plain = goes.plain;
         firsts = record { rest = []; split = sym answers ∙ sym (append-nil given) };
-        ending = record { before = serving.requests; stops = refl; replied = answers; written = written; fit = goes.closes.fit; saves = goes.saves };
+        ending = record { before = serving.requests; stops = refl; replied = answers; written = written; fit = goes.closes.fit };
         durable = λ worked. gate-reached first new requests given known known'' goes;
         full = λ need is. absurd (no-full need is);
         torn = λ is. absurd (no-disk is);
         slots = goes.slots;
         still = goes.still;
+        fit = all-fit (closed_groups rules place start requests) given goes.closes.replied goes.closes.fit;
+        saves = λ before rest same handled. goes.saves before rest same;
         there = tt;
       }
     where

@@ -47,37 +47,29 @@ kept-grows old new grows (r ∷ given) kept = (kept-one old new grows r kept.0, 
 pub grown-then : (a b c : EngineParts) → OnlyGrows a b → OnlyGrows b c → OnlyGrows a c
 grown-then a b c first second = record { durable = omega (arith, first.durable, second.durable); saved = omega (arith, first.saved, second.saved) }
 
--- a request among these and one more is one of these, or that one
-pub data-free : (xs before rest : List Request) (x y : Request) → xs ++ x ∷ [] ≡ before ++ y ∷ rest → ((before ≡ xs) × (x ≡ y)) ⊎ ((more : List Request) × (xs ≡ before ++ y ∷ more))
-data-free [] [] rest x y same = inl (refl, head-same x y [] rest same)
-  where
-    head-same : (x y : Request) (xs ys : List Request) → x ∷ xs ≡ y ∷ ys → x ≡ y
-    head-same x y xs ys e = cc
+-- lists of requests that are the same begin with the same one, and go on with the same ones
+head-same : (x y : Request) (xs ys : List Request) → x ∷ xs ≡ y ∷ ys → x ≡ y
+head-same x y xs ys e = cc
+
+tail-same : (x y : Request) (xs ys : List Request) → x ∷ xs ≡ y ∷ ys → xs ≡ ys
+tail-same x y xs ys e = cc
+
+-- a request among these and one more is that one, which is the last, or one of these
+pub data-free : (xs before rest : List Request) (x y : Request) → xs ++ x ∷ [] ≡ before ++ y ∷ rest → ((before ≡ xs) × (x ≡ y) × (rest ≡ [])) ⊎ ((more : List Request) × (xs ≡ before ++ y ∷ more))
+data-free [] [] rest x y same = inl (refl, head-same x y [] rest same, sym (tail-same x y [] rest same))
 data-free [] (b ∷ bs) rest x y same = absurd (none bs (tail-same x b [] (bs ++ y ∷ rest) same))
   where
-    tail-same : (x y : Request) (xs ys : List Request) → x ∷ xs ≡ y ∷ ys → xs ≡ ys
-    tail-same x y xs ys e = cc
-
     none : (bs : List Request) → [] ≡ bs ++ y ∷ rest → ⊥
     none [] e = absurd cc
     none (c ∷ cs) e = absurd cc
 data-free (z ∷ zs) [] rest x y same = inr (zs, ap (λ (r : Request). r ∷ zs) (head-same z y (zs ++ x ∷ []) rest same))
-  where
-    head-same : (x y : Request) (xs ys : List Request) → x ∷ xs ≡ y ∷ ys → x ≡ y
-    head-same x y xs ys e = cc
 data-free (z ∷ zs) (b ∷ bs) rest x y same = go (data-free zs bs rest x y (tail-same z b (zs ++ x ∷ []) (bs ++ y ∷ rest) same))
   where
-    tail-same : (x y : Request) (xs ys : List Request) → x ∷ xs ≡ y ∷ ys → xs ≡ ys
-    tail-same x y xs ys e = cc
-
-    head-same : (x y : Request) (xs ys : List Request) → x ∷ xs ≡ y ∷ ys → x ≡ y
-    head-same x y xs ys e = cc
-
     first : z ≡ b
     first = head-same z b (zs ++ x ∷ []) (bs ++ y ∷ rest) same
 
-    go : ((bs ≡ zs) × (x ≡ y)) ⊎ ((more : List Request) × (zs ≡ bs ++ y ∷ more)) → ((b ∷ bs ≡ z ∷ zs) × (x ≡ y)) ⊎ ((more : List Request) × (z ∷ zs ≡ b ∷ (bs ++ y ∷ more)))
-    go (inl is) = inl (ap₂ (λ (r : Request) (l : List Request). r ∷ l) (sym first) is.0, is.1)
+    go : ((bs ≡ zs) × (x ≡ y) × (rest ≡ [])) ⊎ ((more : List Request) × (zs ≡ bs ++ y ∷ more)) → ((b ∷ bs ≡ z ∷ zs) × (x ≡ y) × (rest ≡ [])) ⊎ ((more : List Request) × (z ∷ zs ≡ b ∷ (bs ++ y ∷ more)))
+    go (inl is) = inl (ap₂ (λ (r : Request) (l : List Request). r ∷ l) (sym first) is.0, is.1, is.2)
     go (inr is) = inr (is.0, ap₂ (λ (r : Request) (l : List Request). r ∷ l) first is.1)
 
 -- what is said of all requests, and one request more
@@ -149,6 +141,21 @@ module _ (first now : EngineParts) (requests : List Request) (given : List Reply
       let here : IsGateAfter rules now.log.gate.place middle (cut_one rules middle whole.rest asked).closed gate = subst (λ (r : Rules). IsGateAfter r now.log.gate.place middle (cut_one r middle whole.rest asked).closed gate) goes.closes.same after in
       subst (λ (c : GroupCut). IsGateAfter rules place start c.closed gate) (sym (cut-more (asked ∷ []))) (gate-then rules place start whole given now goes.closes (cut_one rules middle whole.rest asked).closed gate here)
 
+  -- a save that was handled had room
+  pub save-room : (more : List Reply) (new : EngineParts) → ((rules : Rules) (place : ℕ) (start : SessionState) (whole : GroupCut) (given : List Reply) → Closes rules place start whole given now → Closes rules place start (cut_on rules start whole request.Save) (given ++ more) new)
+      → slot_len (rules_of now.session) (state_now now.session) (place_after_group now.log.gate.place now.session.txns) ≤ MAX_SLOT_LEN → SaveFits (rules_of first.session) first.log.gate.place (state_now first.session) requests
+  save-room more new closes fits =
+      let alone : Closes rules now.log.gate.place middle (record { closed = []; rest = whole.rest }) [] now = record { replied = refl; fit = tt; there = refl; same = goes.closes.same; within = goes.closes.within } in
+      let one = closes rules now.log.gate.place middle (record { closed = []; rest = whole.rest }) [] alone in
+      let all : Closes rules place start (cut rules start (requests ++ request.Save ∷ [])) (given ++ more) new = subst (λ (c : GroupCut). Closes rules place start c (given ++ more) new) (sym (cut-more (request.Save ∷ []))) (closes rules place start whole given goes.closes) in
+      let txns : committed rules middle (whole.rest ++ request.Save ∷ []) ≡ now.session.txns
+      = committed-append rules middle whole.rest (request.Save ∷ []) ∙ append-nil (committed rules middle whole.rest) ∙ ap (λ (r : Rules). committed r middle whole.rest) (sym goes.closes.same) ∙ sym goes.closes.within.body in
+      let there : place_after_group now.log.gate.place now.session.txns ≡ place_after place (closed_groups rules place start (requests ++ request.Save ∷ []))
+      = ap (place_after_group now.log.gate.place) (sym txns) ∙ sym one.there ∙ all.there in
+      let room : slot_len rules (ends rules start requests) (place_after_group now.log.gate.place now.session.txns) ≤ MAX_SLOT_LEN
+      = subst (λ (s : SessionState). slot_len rules s (place_after_group now.log.gate.place now.session.txns) ≤ MAX_SLOT_LEN) reached (subst (λ (r : Rules). slot_len r (state_now now.session) (place_after_group now.log.gate.place now.session.txns) ≤ MAX_SLOT_LEN) goes.closes.same fits) in
+      subst (λ (p : ℕ). slot_len rules (ends rules start requests) p ≤ MAX_SLOT_LEN) there room
+
   module _ (new : EngineParts) (known'' : Devices (Option DiskHistory)) where
     pub keeps-more : (asked : List Request) → KeepsEach (committed (rules_of now.session) (state_now now.session) asked) now new known' known''
         → KeepsEach (committed (rules_of first.session) (state_now first.session) (requests ++ asked)) first new known known''
@@ -168,21 +175,12 @@ module _ (first now : EngineParts) (requests : List Request) (given : List Reply
       save-fits : asked ≡ request.Save ∷ [] → SaveFits (rules_of first.session) first.log.gate.place (state_now first.session) requests
       save-fits is =
           let saves : Answered (request.Save ∷ []) more now new known' known'' = subst (λ (l : List Request). Answered l more now new known' known'') is answered in
-          let alone : Closes rules now.log.gate.place middle (record { closed = []; rest = whole.rest }) [] now = record { replied = refl; fit = tt; there = refl; same = goes.closes.same; within = goes.closes.within } in
-          let one = saves.closes rules now.log.gate.place middle (record { closed = []; rest = whole.rest }) [] alone in
-          let all : Closes rules place start (cut rules start (requests ++ request.Save ∷ [])) (given ++ more) new = subst (λ (c : GroupCut). Closes rules place start c (given ++ more) new) (sym (cut-more (request.Save ∷ []))) (saves.closes rules place start whole given goes.closes) in
-          let txns : committed rules middle (whole.rest ++ request.Save ∷ []) ≡ now.session.txns
-          = committed-append rules middle whole.rest (request.Save ∷ []) ∙ append-nil (committed rules middle whole.rest) ∙ ap (λ (r : Rules). committed r middle whole.rest) (sym goes.closes.same) ∙ sym goes.closes.within.body in
-          let there : place_after_group now.log.gate.place now.session.txns ≡ place_after place (closed_groups rules place start (requests ++ request.Save ∷ []))
-          = ap (place_after_group now.log.gate.place) (sym txns) ∙ sym one.there ∙ all.there in
-          let room : slot_len rules (ends rules start requests) (place_after_group now.log.gate.place now.session.txns) ≤ MAX_SLOT_LEN
-          = subst (λ (s : SessionState). slot_len rules s (place_after_group now.log.gate.place now.session.txns) ≤ MAX_SLOT_LEN) reached (subst (λ (r : Rules). slot_len r (state_now now.session) (place_after_group now.log.gate.place now.session.txns) ≤ MAX_SLOT_LEN) goes.closes.same (saves.saves refl)) in
-          subst (λ (p : ℕ). slot_len rules (ends rules start requests) p ≤ MAX_SLOT_LEN) there room
+          save-room more new saves.closes (saves.saves refl)
 
       saves-more : (before rest : List Request) → requests ++ asked ≡ before ++ request.Save ∷ rest → SaveFits (rules_of first.session) first.log.gate.place (state_now first.session) before
       saves-more before rest same = by asked refl
         where
-          one : (asks : Request) → asked ≡ asks ∷ [] → ((before ≡ requests) × (asks ≡ request.Save)) ⊎ ((others : List Request) × (requests ≡ before ++ request.Save ∷ others)) → SaveFits rules place start before
+          one : (asks : Request) → asked ≡ asks ∷ [] → ((before ≡ requests) × (asks ≡ request.Save) × (rest ≡ [])) ⊎ ((others : List Request) × (requests ≡ before ++ request.Save ∷ others)) → SaveFits rules place start before
           one asks is (inl at) = subst (λ (l : List Request). SaveFits rules place start l) (sym at.0) (save-fits (is ∙ ap (λ (r : Request). r ∷ []) at.1))
           one asks is (inr at) = goes.saves before at.0 at.1
 

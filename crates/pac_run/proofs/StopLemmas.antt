@@ -1,5 +1,6 @@
 -- Where a run stops, and which replies it was to write.
 use Rattle.std.proofs.Common.{◌≡◌, ◌∙◌, ◌⊎◌, inl, inr, ℕ, List, [], ◌∷◌, ◌++◌, Option, refl, sym, ap, ap₂, subst, append_assoc}
+use Rattle.std.specs.List.{AllByRecursion}
 use Rattle.std.proofs.lemmas.List.{append-nil}
 use Rattle.pac_outside.specs.Disk.{DiskHistory}
 use Rattle.pac_outside.specs.declared.devices.Devices.{Devices}
@@ -15,7 +16,7 @@ use Rattle.pac_session.proofs.CutLemmas.{joined-append, whole-cut, described-rep
 use Rattle.pac_engine.specs.declared.fault.EngineCause.{EngineCause}
 use Rattle.pac_engine.specs.declared.fault.EngineCause.TheVariants as cause
 use Rattle.pac_engine.specs.declared.parts.EngineParts.{EngineParts}
-use Rattle.pac_engine.specs.Closing.{Closes, IsUnsaved, StopsAt, place_after}
+use Rattle.pac_engine.specs.Closing.{Closes, GivesFitting, GroupFits, IsUnsaved, StopsAt, place_after}
 use Rattle.pac_engine.proofs.LawLemmas.{stops-then}
 use Rattle.pac_run.specs.Asked.{NoStop, StopsLast}
 use Rattle.pac_run.specs.Causes.{stop_of_engine}
@@ -76,6 +77,32 @@ stopped-first rules place start requests given NoMemory is = groups-first rules 
 stopped-first rules place start requests given (LogFull need) is = groups-first rules place start requests given (stops-first rules place start _ given (cause.LogFull need) is)
 stopped-first rules place start requests given (TooLarge bytes) is = groups-first rules place start requests given (stops-first rules place start _ given (cause.TooLarge bytes) is)
 
+-- ---- the groups whose replies they are fit the log
+
+-- all of these groups fit
+pub all-fit : (groups : List Group) (given : List Reply) → given ≡ all_replies groups → AllByRecursion GroupFits groups → GivesFitting groups given
+all-fit groups given replied fit = inl (record { before = groups; rest = []; split = sym (append-nil groups); replied = replied; fit = fit })
+
+stops-fit : (rules : Rules) (place : ℕ) (start : SessionState) (closed : List (List Request)) (given : List Reply) (why : EngineCause) → StopsAt rules place start closed given why → GivesFitting (described rules place start closed) given
+stops-fit rules place start closed given cause.DiskFault (inl is) = inl (record { before = is.before; rest = is.group ∷ is.rest; split = is.split; replied = is.replied; fit = is.fit })
+stops-fit rules place start closed given cause.DiskFault (inr is) = inr is
+stops-fit rules place start closed given (cause.LogFull need) is = inl (record { before = is.before; rest = is.group ∷ is.rest; split = is.split; replied = is.replied; fit = is.fit })
+stops-fit rules place start closed given (cause.TooLarge bytes) is = inr is.unsaved
+stops-fit rules place start closed given cause.Ended is = absurd is
+stops-fit rules place start closed given cause.NoMemory is = is
+
+-- where the run stopped in a step, those of the step too; where the output failed, all groups that were closed fit
+pub stopped-fit : (rules : Rules) (place : ℕ) (start : SessionState) (requests : List Request) (given : List Reply) (stop : RunStop) → IsStoppedAt rules place start requests given stop → (stop ≡ InputFault → ⊥) → (stop ≡ TooLong → ⊥)
+    → (stop ≡ OutputFault → AllByRecursion GroupFits (closed_groups rules place start requests)) → GivesFitting (closed_groups rules place start requests) given
+stopped-fit rules place start requests given (Opening error) is input long fit = absurd is
+stopped-fit rules place start requests given InputFault is input long fit = absurd (input refl)
+stopped-fit rules place start requests given TooLong is input long fit = absurd (long refl)
+stopped-fit rules place start requests given OutputFault is input long fit = all-fit (closed_groups rules place start requests) given is (fit refl)
+stopped-fit rules place start requests given DiskFault is input long fit = stops-fit rules place start _ given cause.DiskFault is
+stopped-fit rules place start requests given NoMemory is input long fit = stops-fit rules place start _ given cause.NoMemory is
+stopped-fit rules place start requests given (LogFull need) is input long fit = stops-fit rules place start _ given (cause.LogFull need) is
+stopped-fit rules place start requests given (TooLarge bytes) is input long fit = stops-fit rules place start _ given (cause.TooLarge bytes) is
+
 -- ---- one request that is not answered
 
 -- a step's cause is the run's
@@ -99,7 +126,7 @@ no-output cause.NoMemory e = cc
 
 -- where nothing was written for running out of memory, no group's replies were
 pub none-known : (rules : Rules) (place : ℕ) (start : SessionState) (closed : List (List Request)) → StepStops rules place start closed [] NoMemory
-none-known rules place start closed = inl (record { before = []; rest = described rules place start closed; split = refl; replied = refl })
+none-known rules place start closed = inl (record { before = []; rest = described rules place start closed; split = refl; replied = refl; fit = tt })
 
 module _ (first now : EngineParts) (requests : List Request) (given : List Reply) (known known' : Devices (Option DiskHistory)) (goes : GoesFrom first now requests given known known') where
   abbrev rules : Rules
@@ -194,7 +221,7 @@ module _ (first now : EngineParts) (requests : List Request) (given : List Reply
       by (inl is) = subst (λ (s : RunStop). IsStoppedAt rules place start requests given s) (sym is) (goes.closes.replied, none)
       by (inr (inl is)) = subst (λ (s : RunStop). IsStoppedAt rules place start requests given s) (sym is) (goes.closes.replied, none)
       by (inr (inr is)) = subst (λ (s : RunStop). IsStoppedAt rules place start requests given s) (sym is)
-          (inl (record { before = closed_groups rules place start requests; rest = []; split = sym (append-nil (closed_groups rules place start requests)); replied = goes.closes.replied }))
+          (inl (record { before = closed_groups rules place start requests; rest = []; split = sym (append-nil (closed_groups rules place start requests)); replied = goes.closes.replied; fit = goes.closes.fit }))
 
 -- ---- stops
 

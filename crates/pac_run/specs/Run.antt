@@ -1,10 +1,10 @@
 -- What a run reads, writes and leaves.
-use Rattle.std.specs.Prelude.{◌≡◌, ◌⊎◌, ◌<◌, ◌≤◌, ℕ, List, [], ◌∷◌, ◌++◌, length, take, Option, None, IfSome, Result, IfErr, IsErrOf, OnOk}
+use Rattle.std.specs.Prelude.{◌≡◌, ◌⊎◌, ◌<◌, ◌≤◌, ℕ, List, [], ◌∷◌, ◌++◌, length, take, Option, None, Result, IfErr, IsErrOf, OnOk}
 use Rattle.std.specs.Io.KnownBytes.{prepend_known}
 use Rattle.std.specs.List.{AllByRecursion}
 use Rattle.pac_ops.specs.declared.transaction.Txn.{Txn}
 use Rattle.pac_outside.specs.Content.{Took}
-use Rattle.pac_outside.specs.Devices.{AllLeave, AreImages, RunLeaves, all_known}
+use Rattle.pac_outside.specs.Devices.{AllLeave, AreImages, RunLeaves}
 use Rattle.pac_outside.specs.Disk.{DiskHistory, DiskState, Leaves, settled}
 use Rattle.pac_outside.specs.declared.devices.Devices.{Devices}
 use Rattle.pac_outside.specs.GateByte.{OneImage}
@@ -14,14 +14,14 @@ use Rattle.pac_lines.specs.declared.limits.TheConstants.{MAX_READ}
 use Rattle.pac_types.specs.Execution.{first_over}
 use Rattle.pac_types.specs.Typing.{CatalogueState}
 use Rattle.pac_log.specs.Logs.{HoldsLog, all_txns, log_prefix}
-use Rattle.pac_store.specs.Images.{Images}
+use Rattle.pac_store.specs.Images.{Images, IfImagesKnown}
 use Rattle.pac_store.specs.Stands.{StandsFor}
 use Rattle.pac_request.specs.declared.request.Request.{Request}
 use Rattle.pac_request.specs.declared.request.Request.TheVariants as request
 use Rattle.pac_request.specs.declared.request.Reply.{Reply}
 use Rattle.pac_session.specs.Session.{Rules, SessionState, committed, replies}
 use Rattle.pac_recover.specs.Recovering.{IsRecoveredFrom}
-use Rattle.pac_engine.specs.Closing.{GroupFits, place_after}
+use Rattle.pac_engine.specs.Closing.{GivesFitting, GroupFits, place_after}
 use Rattle.pac_engine.specs.Standing.{StandsWith, WhileAllKnown}
 use Rattle.pac_run.specs.declared.limits.TheConstants.{MAX_INPUT}
 use Rattle.pac_run.specs.declared.stop.RunStop.{RunStop}
@@ -29,7 +29,7 @@ use Rattle.pac_run.specs.declared.stop.RunStop.TheVariants.{DiskFault, InputFaul
 use Rattle.pac_run.specs.Acked.{Acknowledges, ReportsSaved}
 use Rattle.pac_run.specs.Asked.{NoSave, WereAsked, IsOverLong, StopsLast, TookAtMost, WereHandled}
 use Rattle.pac_run.specs.Opening.{AllStand}
-use Rattle.pac_run.specs.Stopping.{BeforeLast, HasWorked, StopsOpening, IsStopped, IsUnopened, SaveFits, StopsThere, closed_groups, closed_number}
+use Rattle.pac_run.specs.Stopping.{BeforeLast, HasWorked, StopsOpening, IsStopped, IsUnopened, SavesFit, StopsThere, closed_groups, closed_number}
 use Rattle.pac_run.specs.Texts.{IsTextPrefix, texts}
 
 -- ---- where the session begins
@@ -43,10 +43,6 @@ pub record IsBegun (rules : Rules) (place : ℕ) (start : SessionState) (images 
   pub log : HoldsLog text rules.catalogue batches images.log
   pub there : place ≡ length (log_prefix text batches)
   pub within : first_over rules.limit (length rules.catalogue.tables) start.tables ≡ None
-
--- where all devices' histories are known, what a read gives of them has P
-abbrev pub IfSeenKnown : (Images → Type 0) → Devices (Option DiskHistory) → Type 0
-IfSeenKnown P known = IfSome (all_known known) (λ devices. P (reads_of devices))
 
 -- ---- what the devices hold
 
@@ -96,13 +92,12 @@ WhileAllStand R known known' = (text : List ℕ) (catalogue : CatalogueState) (h
 
 -- ---- the run
 
--- all replies were written, the last request is a stop, and each group and each checkpoint has room
+-- all replies were written, the last request is a stop, and each group has room
 pub record IsWholeRun (rules : Rules) (place : ℕ) (start : SessionState) (requests : List Request) (out : List ℕ) : Type 0 where
   pub before : List Request
   pub stops : requests ≡ before ++ request.Stop ∷ []
   pub written : out ≡ texts rules.catalogue (replies rules start requests)
   pub fit : AllByRecursion GroupFits (closed_groups rules place start requests)
-  pub saves : (first rest : List Request) → requests ≡ first ++ request.Save ∷ rest → SaveFits rules place start first
 
 -- A run, whatever its answer.
 pub record IsRun (batch limit : ℕ) (left left' held held' : Option (List ℕ)) (known known' : Devices (Option DiskHistory)) (faulted : Type 0) (result : Result (Unit {0}) RunStop) : Type 0 where
@@ -126,7 +121,7 @@ pub record IsRun (batch limit : ℕ) (left left' held held' : Option (List ℕ))
   pub most : rules.most ≡ batch
   pub start : SessionState
   pub place : ℕ
-  pub begun : IfSeenKnown (λ images. IsUnopened result requests ⊎ IsBegun rules place start images) known
+  pub begun : IfImagesKnown (λ images. IsUnopened result requests ⊎ IsBegun rules place start images) known
   -- (a) the output is a prefix of the texts of its replies, and all of them with Ok
   pub prefix : IsTextPrefix out (texts rules.catalogue (replies rules start requests))
   pub whole : OnOk result (IsWholeRun rules place start requests out)
@@ -145,6 +140,9 @@ pub record IsRun (batch limit : ℕ) (left left' held held' : Option (List ℕ))
   pub given : List Reply
   pub written : IsTextPrefix out (texts rules.catalogue given)
   pub all : (out ≡ texts rules.catalogue given) ⊎ faulted
+  -- the groups whose replies these are fit the log, and the saves that were handled to their end fit a slot
+  pub fit : GivesFitting (closed_groups rules place start requests) given
+  pub saves : SavesFit rules place start requests result
   pub stopped : IfErr result (λ stop. IsStopped rules place start requests given stop)
   -- and within which request: all that was due before it was written
   pub there : IfErr result (λ stop. (StopsOpening stop × (requests ≡ [])) ⊎ StopsThere rules place start requests given out stop)

@@ -20,14 +20,14 @@ use Rattle.pac_session.specs.Groups.{GroupCut, cut, cut_on, cut_one, place_after
 use Rattle.pac_session.specs.Open.{IsInGroup, Open, rules_of, state_now}
 use Rattle.pac_check.specs.declared.limits.TheConstants.{MAX_SLOT_LEN}
 use Rattle.pac_engine.specs.declared.parts.EngineParts.{EngineParts}
-use Rattle.pac_engine.specs.Closing.{Closes, GroupFits, IsKept, MayEndAfter, slot_len}
+use Rattle.pac_engine.specs.Closing.{Closes, GivesFitting, GroupFits, IsKept, MayEndAfter, slot_len}
 use Rattle.pac_engine.specs.Committing.{gate_past}
 use Rattle.pac_engine.specs.Standing.{OnlyGrows, KeepsHistory, StandsOn, WhileAllKnown, durable_of}
 use Rattle.pac_run.specs.declared.limits.TheConstants.{MAX_INPUT}
 use Rattle.pac_run.specs.declared.stop.RunStop.{RunStop}
 use Rattle.pac_run.specs.declared.stop.RunStop.TheVariants.{Opening, InputFault, OutputFault, DiskFault, NoMemory, LogFull, TooLong, TooLarge}
 use Rattle.pac_run.specs.Asked.{WereAsked, IsOverLong, LineAsks, LinesAsk, NoSave, NoStop, StopsLast, TookAtMost, WereHandled}
-use Rattle.pac_run.specs.Stopping.{AreFirst, BeforeLast, EndsGroups, HasWorked, IsStoppedAt, IsTorn, SaveFits, StepStops, StopsThere, closed_groups}
+use Rattle.pac_run.specs.Stopping.{AreFirst, BeforeLast, EndsGroups, HasWorked, IsStoppedAt, IsTorn, SaveFits, SavesFit, StepStops, StopsThere, closed_groups}
 use Rattle.pac_run.specs.Texts.{IsTextPrefix, IsPlain, texts}
 
 -- ---- one line
@@ -62,10 +62,11 @@ pub record Replied (catalogue : CatalogueState) (asked : List Request) (old new 
   pub took : Took held (texts catalogue more) held'
   pub answered : Answered asked more old new histories histories'
 
--- a request was handled, and the groups that it closes were, though their replies could not be written
+-- a request was handled, and the groups that it closes were, though their replies could not be written; a save had room
 pub record WasHandled (asked : Request) (more : List Reply) (old new : EngineParts) : Type 0 where
   pub closes : (rules : Rules) (place : ℕ) (start : SessionState) (whole : GroupCut) (given : List Reply) → Closes rules place start whole given old
       → Closes rules place start (cut_on rules start whole asked) (given ++ more) new
+  pub saves : asked ≡ request.Save → slot_len (rules_of old.session) (state_now old.session) (place_after_group old.log.gate.place old.session.txns) ≤ MAX_SLOT_LEN
   pub durable : durable_of new ≡ new.session.before
 
 -- what a save may give out of the open group before a device fails; of another request nothing is said
@@ -162,14 +163,13 @@ pub record Serving (first now : EngineParts) (left left' : Option (List ℕ)) (r
   pub took : Took held (texts first.session.catalogue given) held'
   pub goes : GoesFrom first now requests given histories histories'
 
--- all was done: the last request is a stop, and all replies were written
+-- all was done: the last request is a stop, all replies were written, and each group has room
 pub record IsDone (rules : Rules) (place : ℕ) (start : SessionState) (requests : List Request) (given : List Reply) (out : List ℕ) : Type 0 where
   pub before : List Request
   pub stops : requests ≡ before ++ request.Stop ∷ []
   pub replied : given ≡ replies rules start requests
   pub written : out ≡ texts rules.catalogue given
   pub fit : AllByRecursion GroupFits (closed_groups rules place start requests)
-  pub saves : (first rest : List Request) → requests ≡ first ++ request.Save ∷ rest → SaveFits rules place start first
 
 -- What was served, whatever the end.
 pub record Served (first now : EngineParts) (left left' held held' : Option (List ℕ)) (histories histories' : Devices (Option DiskHistory)) (faulted : Type 0) (result : Result (Unit {0}) RunStop) : Type 0 where
@@ -198,5 +198,7 @@ pub record Served (first now : EngineParts) (left left' held held' : Option (Lis
   pub torn : IsErrOf result DiskFault → BeforeLast (λ before. IsTorn (rules_of first.session) first.log.gate.place (state_now first.session) before requests histories') requests
   pub slots : NoSave requests → slots_of histories' ≡ slots_of histories
   pub still : requests ≡ [] → histories' ≡ histories
+  pub fit : GivesFitting (closed_groups (rules_of first.session) first.log.gate.place (state_now first.session) requests) given
+  pub saves : SavesFit (rules_of first.session) first.log.gate.place (state_now first.session) requests result
   pub there : IfErr result (λ stop. StopsThere (rules_of first.session) first.log.gate.place (state_now first.session) requests given out stop)
   pub ending : MatchResult result (λ _. IsDone (rules_of first.session) first.log.gate.place (state_now first.session) requests given out) (λ stop. IsStoppedAt (rules_of first.session) first.log.gate.place (state_now first.session) requests given stop)

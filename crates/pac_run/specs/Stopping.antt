@@ -55,6 +55,19 @@ HasWorked (Err NoMemory) = ⊥
 HasWorked (Err (LogFull need)) = ⊥
 HasWorked (Err (TooLarge bytes)) = Unit {0}
 
+-- each of the requests was handled to its end, the last one too: all was done, or the input or the output failed, or the input
+-- was too long
+abbrev pub HandledLast : {A : Type 0} → Result A RunStop → Type 0
+HandledLast (Ok done) = Unit {0}
+HandledLast (Err InputFault) = Unit {0}
+HandledLast (Err OutputFault) = Unit {0}
+HandledLast (Err TooLong) = Unit {0}
+HandledLast (Err (Opening error)) = ⊥
+HandledLast (Err DiskFault) = ⊥
+HandledLast (Err NoMemory) = ⊥
+HandledLast (Err (LogFull need)) = ⊥
+HandledLast (Err (TooLarge bytes)) = ⊥
+
 -- Which replies were to be written before a stop, where these requests were handled.
 abbrev pub IsStoppedAt : Rules → ℕ → SessionState → List Request → List Reply → RunStop → Type 0
 -- a store is opened once
@@ -116,6 +129,10 @@ IsStopped rules place start requests given stop = (StopsOpening stop × (request
 -- a save after these requests has room in a slot
 abbrev pub SaveFits : Rules → ℕ → SessionState → List Request → Type 0
 SaveFits rules place start before = slot_len rules (ends rules start before) (place_after place (closed_groups rules place start (before ++ request.Save ∷ []))) ≤ MAX_SLOT_LEN
+
+-- each save among the requests that was handled to its end has room in a slot
+abbrev pub SavesFit : {A : Type 0} → Rules → ℕ → SessionState → List Request → Result A RunStop → Type 0
+SavesFit rules place start requests result = (first rest : List Request) → requests ≡ first ++ request.Save ∷ rest → (rest ≡ [] → HandledLast result) → SaveFits rules place start first
 
 -- which replies were to be written where a request was not answered, and these groups were to be closed
 abbrev pub StepStops : Rules → ℕ → SessionState → List (List Request) → List Reply → RunStop → Type 0

@@ -6,7 +6,7 @@ ghost use Rattle.pac_outside.specs.Disk.{IfKnown};
 ghost use Rattle.pac_outside.specs.Parts.{known_reads};
 ghost use Rattle.pac_check.specs.declared.limits.TheConstants.{MAX_SAVED_ROWS};
 ghost use Rattle.pac_check.specs.SlotStates.{IsSlot};
-ghost use Rattle.pac_store.specs.Images.{IfReadKnown};
+ghost use Rattle.pac_store.specs.Images.{IfImagesKnown};
 ghost use Rattle.pac_recover.specs.Logs.{HoldsLogUpTo};
 ghost use Rattle.pac_recover.specs.Refusals.{AreRefused};
 ghost use Rattle.pac_types.specs.Execution.{first_over};
@@ -30,7 +30,7 @@ fn engine_over<D: Disk>(
     requires some { 1 ≤ batch }
     requires few { batch ≤ MAX_TXNS }
     requires limit { limit ≤ MAX_SAVED_ROWS }
-    ensures opened { IfOk result (λ engine. IfReadKnown (IsOpenedFrom engine) (D.known devices.old.log) (D.known devices.old.slot_a) (D.known devices.old.slot_b)) }
+    ensures opened { IfOk result (λ engine. IfImagesKnown (IsOpenedFrom engine) (each D.known devices.old)) }
     ensures fresh { IfOk result (IsFresh batch limit) }
     ensures within { IfOk result (λ engine. first_over limit (length engine.session.catalogue.tables) engine.session.tables ≡ None) }
     ensures log { IfOk result (λ engine. IfKnown (λ old. HoldsLogUpTo engine.log.gate old.now.seen) (D.known devices.old.log)) }
@@ -69,7 +69,7 @@ pub fn open<D: Disk>(
     requires limit { limit ≤ MAX_SAVED_ROWS }
 
     // What is opened, and when each refusal comes.
-    ensures opened { IfOk result (λ engine. IfReadKnown (IsOpenedFrom engine) (D.known devices.old.log) (D.known devices.old.slot_a) (D.known devices.old.slot_b)) }
+    ensures opened { IfOk result (λ engine. IfImagesKnown (IsOpenedFrom engine) (each D.known devices.old)) }
     ensures fresh { IfOk result (IsFresh batch limit) }
     ensures within { IfOk result (λ engine. first_over limit (length engine.session.catalogue.tables) engine.session.tables ≡ None) }
     ensures refused { IfErr result (AreRefused limit (each D.known devices.old)) }

@@ -1,1 +1,3 @@
 pub mod StandsLemmas
+pub mod ImageLemmas
+pub mod CallLemmas

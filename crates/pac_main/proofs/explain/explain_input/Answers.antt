@@ -11,6 +11,7 @@ returns-in-Ok-clause-ends g c = record {
   refused = λ two. absurd (omega (arith, two));
   input_fault = λ six. absurd (omega (arith, six));
   output_fault = λ seven. absurd (omega (arith, seven));
+  complete = λ input reads writes. refl;
 }
 
 pub returns-in-Err-clause-ends : goal.returns-in-Err-clause-ends

@@ -3,15 +3,16 @@ use Rattle.std.proofs.Common.{sym, subst, List, ℕ}
 use Rattle.std.proofs.lemmas.Result.{err_from_is_err_and}
 use Rattle.pac_outside.specs.Devices.{IfAllKnown, each}
 use Rattle.pac_store.specs.Made.{MakesStore}
+use Rattle.pac_main.specs.Inputs.{IsAcceptedText}
 use Rattle.pac_main.specs.Causes.{InitStops}
 use Rattle.pac_main.specs.Streams.{observed, observed_devices}
 use Rattle.pac_main.proofs.InputLemmas.{if_err}
-use Rattle.pac_main.proofs.InitLemmas.{HasStore, not-called, not-made}
+use Rattle.pac_main.proofs.InitLemmas.{not-called, not-made}
 use Rattle.pac_main.proofs.StopLemmas.{init-input}
 use Rattle.pac_main.proofs.init.init.Goals as goal
 
 pub make_store-requires : goal.make_store-requires
-make_store-requires g c = subst (λ (text : List ℕ). HasStore text) (sym c.deref.ensures.value) c.in_ok-text.ensures.accepted
+make_store-requires g c = subst (λ (text : List ℕ). IsAcceptedText text) (sym c.deref.ensures.value) c.in_ok-text.ensures.accepted
 
 pub returns-clause-done : goal.returns-clause-done
 returns-clause-done g c = (

@@ -15,6 +15,7 @@ returns-in-Ok-clause-ends g c = record {
   disk_fault = λ eight. absurd (omega (arith, eight));
   untouched = λ zero eight. absurd (zero refl);
   quiet = λ zero. c.in-Ok.ensures.quiet;
+  complete = λ input unused none. refl;
 }
 
 pub returns-in-Err-clause-ends : goal.returns-in-Err-clause-ends

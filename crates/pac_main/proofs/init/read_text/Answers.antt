@@ -1,18 +1,19 @@
 -- What the bytes that were read say of the input.
 use Rattle.std.proofs.Common.{sym, subst, List, ℕ}
 use Rattle.std.proofs.lemmas.Result.{err_from_is_err_and}
+use Rattle.pac_main.specs.Inputs.{IsAcceptedText}
 use Rattle.pac_main.specs.Causes.{GivesNoText}
 use Rattle.pac_script.specs.Script.{IsUnaccepted}
 use Rattle.pac_main.specs.Streams.{observed}
 use Rattle.pac_main.proofs.InputLemmas.{if_err}
-use Rattle.pac_main.proofs.InitLemmas.{HasStore, store-text, text-unread, text-refused}
+use Rattle.pac_main.proofs.InitLemmas.{store-text, text-unread, text-refused}
 use Rattle.pac_main.proofs.init.read_text.Goals as goal
 
 pub returns-clause-accepted : goal.returns-clause-accepted
-returns-clause-accepted g c = subst (λ (text : List ℕ). HasStore text) c.deref.ensures.value (c.in_ok-read_accepted.field-0, c.in_ok-read_accepted.ensures.accepted)
+returns-clause-accepted g c = subst (λ (text : List ℕ). IsAcceptedText text) c.deref.ensures.value (c.in_ok-read_accepted.field-0, c.in_ok-read_accepted.ensures.accepted)
 
 pub returns-clause-ok : goal.returns-clause-ok
-returns-clause-ok g c = store-text _ _ c.in_ok-text.text.items c.in_ok-text.ensures.bytes c.in_ok-text.ensures.end (subst (λ (text : List ℕ). HasStore text) c.deref.ensures.value (c.in_ok-read_accepted.field-0, c.in_ok-read_accepted.ensures.accepted))
+returns-clause-ok g c = store-text _ _ c.in_ok-text.text.items c.in_ok-text.ensures.bytes c.in_ok-text.ensures.end (subst (λ (text : List ℕ). IsAcceptedText text) c.deref.ensures.value (c.in_ok-read_accepted.field-0, c.in_ok-read_accepted.ensures.accepted))
 
 pub returns-in_err-text-clause-stops : goal.returns-in_err-text-clause-stops
 returns-in_err-text-clause-stops g c =

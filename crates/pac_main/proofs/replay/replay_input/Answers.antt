@@ -14,6 +14,7 @@ returns-in-Ok-clause-ends g c = record {
   input_fault = λ six. absurd (omega (arith, six));
   output_fault = λ seven. absurd (omega (arith, seven));
   too_long = λ eleven. absurd (omega (arith, eleven));
+  complete = λ input reads writes. refl;
 }
 
 pub returns-in-Err-clause-ends : goal.returns-in-Err-clause-ends

@@ -18,7 +18,7 @@ returns-in-Ok-clause-ends g c =
     let source = observed g.I.Source.left g.I.Source.faults c.args.input.now c.run.new.input in
     let sink = observed g.O.Sink.held g.O.Sink.faults c.args.output.now c.run.new.output in
     let errors = observed g.E.Sink.held g.E.Sink.faults c.args.errors.now c.args.errors.now in
-    run-done c.args.group_size c.args.limit source sink errors (g.D.Disk.known old.log) (g.D.Disk.known old.slot_a) (g.D.Disk.known old.slot_b) (each g.D.Disk.known new) (each g.D.Disk.faults old) (each g.D.Disk.faults new)
+    run-done c.args.group_size c.args.limit source sink errors (each g.D.Disk.known old) (each g.D.Disk.known new) (each g.D.Disk.faults old) (each g.D.Disk.faults new)
     (subst (λ (n : ℕ). IsRun c.args.group_size n source.before source.after sink.before sink.after (each g.D.Disk.known old) (each g.D.Disk.known new) (Faulted sink.faults_before sink.faults_after) (Ok tt)) c.from.ensures c.in-Ok.ensures.run)
     (c.in-Ok.ensures.quiet (λ e. e))
 
@@ -32,10 +32,10 @@ returns-in-Err-clause-ends g c =
     let why = c.in-Err.why in
     let h = c.in-Err.ensures in
     let same = c.from.ensures in
-    run-ends c.args.group_size c.args.limit source sink errors (g.D.Disk.known old.log) (g.D.Disk.known old.slot_a) (g.D.Disk.known old.slot_b) (each g.D.Disk.known new) (each g.D.Disk.faults old) (each g.D.Disk.faults new)
+    run-ends c.args.group_size c.args.limit source sink errors (each g.D.Disk.known old) (each g.D.Disk.known new) (each g.D.Disk.faults old) (each g.D.Disk.faults new)
     why c.report.result c.status.result c.status.ensures (subst (λ (s : Stop). Reported s c.report.result) c.from-in-Err.ensures c.report.ensures.which)
     (subst (λ (n : ℕ). IsRun c.args.group_size n source.before source.after sink.before sink.after (each g.D.Disk.known old) (each g.D.Disk.known new) (Faulted sink.faults_before sink.faults_after) (Err why)) same h.run)
-    (run-cause c.args.limit source sink (g.D.Disk.known old.log) (g.D.Disk.known old.slot_a) (g.D.Disk.known old.slot_b) (each g.D.Disk.faults old) (each g.D.Disk.faults new) (each g.D.Disk.known new) why (record {
+    (run-cause c.args.limit source sink (each g.D.Disk.known old) (each g.D.Disk.faults old) (each g.D.Disk.faults new) (each g.D.Disk.known new) why (record {
       refused = λ error is. subst (λ (n : ℕ). AreRefused n (each g.D.Disk.known old) error) same (h.refused error is);
       input_fault = h.input_fault;
       output_fault = h.output_fault;

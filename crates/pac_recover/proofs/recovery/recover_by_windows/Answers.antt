@@ -48,7 +48,7 @@ returns-in_err-executed-clause-refused g c =
     (λ slot at kind is.
     let never = subst (λ (n : Option SlotInfo). (text : List ℕ) (batches : List (List Txn)) → IfKnown (λ h. HoldsFrom text batches scanned.reader.gate h.now.seen → IsAtGateOf text batches n → ⊥) now) c.newest-newest.ensures
     (says.slot_damage slot at kind (as-error _ _ is)) in
-    never-slot scanned (g.D.Disk.known d.log) (g.D.Disk.known d.slot_a) (g.D.Disk.known d.slot_b) now same c.in_ok-catalogue.ensures.scanned (IsDamagedSlot slot at kind) never))
+    never-slot scanned devices now same c.in_ok-catalogue.ensures.scanned (IsDamagedSlot slot at kind) never))
 
 pub returns-in_err-executed-clause-quiet : goal.returns-in_err-executed-clause-quiet
 returns-in_err-executed-clause-quiet g c = λ other.
@@ -63,17 +63,15 @@ returns-in_err-tables-clause-refused g c =
     let scanned = c.in_ok-catalogue.field-0 in
     let executed = c.in_ok-executed.executed in
     let now = g.D.Disk.known c.scan.new.devices.log in
-    let log = g.D.Disk.known d.log in
-    let a = g.D.Disk.known d.slot_a in
-    let b = g.D.Disk.known d.slot_b in
+    let devices = each g.D.Disk.known d in
     let says = subst (λ (n : Option SlotInfo). (text : List ℕ) (batches : List (List Txn)) → IfKnown (λ h. HoldsFrom text batches scanned.reader.gate h.now.seen
     → outcome_of executed ≡ serial scanned.catalogue.procs (saved_txns n + 1) (drop (saved_txns n) (all_txns batches)) scanned.tables.rows) now) c.newest-newest.ensures c.in_ok-executed.ensures.outcome in
-    let ends = executed-known scanned log a b now (ap (λ (k : Devices (Option DiskHistory)). k.log) c.in_ok-catalogue.ensures.same) c.in_ok-catalogue.ensures.scanned (outcome_of executed)
+    let ends = executed-known scanned devices now (ap (λ (k : Devices (Option DiskHistory)). k.log) c.in_ok-catalogue.ensures.same) c.in_ok-catalogue.ensures.scanned (outcome_of executed)
     c.in_ok-catalogue.ensures.well_formed.same c.in_ok-catalogue.ensures.well_formed.number says in
     let r = c.from_residual-in_err-tables in
     let p = err_from_is_err_and r.result r.ensures.1 in
     let found = c.in_err-tables.ensures.aborted c.in_err-tables.field-0.0 refl in
-    stopped-refused scanned.catalogue (outcome_of executed) scanned.total log a b ends c.args.limit r.result p.0 p.1 found.0 (p.2 ∙ found.1) (ap outcome_of found.2)
+    stopped-refused scanned.catalogue (outcome_of executed) scanned.total devices ends c.args.limit r.result p.0 p.1 found.0 (p.2 ∙ found.1) (ap outcome_of found.2)
 
 pub returns-in_err-test_rows-clause-refused : goal.returns-in_err-test_rows-clause-refused
 returns-in_err-test_rows-clause-refused g c =
@@ -81,18 +79,16 @@ returns-in_err-test_rows-clause-refused g c =
     let scanned = c.in_ok-catalogue.field-0 in
     let executed = c.in_ok-executed.executed in
     let now = g.D.Disk.known c.scan.new.devices.log in
-    let log = g.D.Disk.known d.log in
-    let a = g.D.Disk.known d.slot_a in
-    let b = g.D.Disk.known d.slot_b in
+    let devices = each g.D.Disk.known d in
     let says = subst (λ (n : Option SlotInfo). (text : List ℕ) (batches : List (List Txn)) → IfKnown (λ h. HoldsFrom text batches scanned.reader.gate h.now.seen
     → outcome_of executed ≡ serial scanned.catalogue.procs (saved_txns n + 1) (drop (saved_txns n) (all_txns batches)) scanned.tables.rows) now) c.newest-newest.ensures c.in_ok-executed.ensures.outcome in
-    let ends = executed-known scanned log a b now (ap (λ (k : Devices (Option DiskHistory)). k.log) c.in_ok-catalogue.ensures.same) c.in_ok-catalogue.ensures.scanned (outcome_of executed)
+    let ends = executed-known scanned devices now (ap (λ (k : Devices (Option DiskHistory)). k.log) c.in_ok-catalogue.ensures.same) c.in_ok-catalogue.ensures.scanned (outcome_of executed)
     c.in_ok-catalogue.ensures.well_formed.same c.in_ok-catalogue.ensures.well_formed.number says in
     let r = c.from_residual-in_err-test_rows in
     let p = err_from_is_err_and r.result r.ensures.1 in
     let excess = c.in_err-test_rows.field-0.0 in
     let found = c.in_err-test_rows.ensures.over excess refl in
-    over-refused scanned.catalogue (outcome_of executed) scanned.total log a b ends c.args.limit r.result p.0 p.1 excess.table excess.rows excess.limit p.2 found.1
+    over-refused scanned.catalogue (outcome_of executed) scanned.total devices ends c.args.limit r.result p.0 p.1 excess.table excess.rows excess.limit p.2 found.1
     c.in_ok-tables.tables.rows (ap outcome_of c.in_ok-tables.ensures.ok) found.0
 
 pub returns-clause-recovered : goal.returns-clause-recovered
@@ -101,11 +97,9 @@ returns-clause-recovered g c =
     let scanned = c.in_ok-catalogue.field-0 in
     let executed = c.in_ok-executed.executed in
     let now = g.D.Disk.known c.scan.new.devices.log in
-    let log = g.D.Disk.known d.log in
-    let a = g.D.Disk.known d.slot_a in
-    let b = g.D.Disk.known d.slot_b in
+    let devices = each g.D.Disk.known d in
     let says = subst (λ (n : Option SlotInfo). (text : List ℕ) (batches : List (List Txn)) → IfKnown (λ h. HoldsFrom text batches scanned.reader.gate h.now.seen
     → outcome_of executed ≡ serial scanned.catalogue.procs (saved_txns n + 1) (drop (saved_txns n) (all_txns batches)) scanned.tables.rows) now) c.newest-newest.ensures c.in_ok-executed.ensures.outcome in
-    let ends = executed-known scanned log a b now (ap (λ (k : Devices (Option DiskHistory)). k.log) c.in_ok-catalogue.ensures.same) c.in_ok-catalogue.ensures.scanned (outcome_of executed)
+    let ends = executed-known scanned devices now (ap (λ (k : Devices (Option DiskHistory)). k.log) c.in_ok-catalogue.ensures.same) c.in_ok-catalogue.ensures.scanned (outcome_of executed)
     c.in_ok-catalogue.ensures.well_formed.same c.in_ok-catalogue.ensures.well_formed.number says in
-    ended-recovered scanned.catalogue (outcome_of executed) scanned.total log a b ends c.in_ok-tables.tables.rows (ap outcome_of c.in_ok-tables.ensures.ok)
+    ended-recovered scanned.catalogue (outcome_of executed) scanned.total devices ends c.in_ok-tables.tables.rows (ap outcome_of c.in_ok-tables.ensures.ok)

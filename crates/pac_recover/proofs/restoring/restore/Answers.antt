@@ -24,7 +24,7 @@ returns-in_err-tables-clause-refused g c =
     let r = c.from_residual-in_err-tables in
     let p = err_from_is_err_and r.result r.ensures.1 in
     let found = c.in_err-tables.ensures.aborted c.in_err-tables.field-0.0 refl in
-    stopped-refused c.in_ok-catalogue.field-0.catalogue (outcome_of c.in_ok-catalogue.field-0.replayed) c.in_ok-catalogue.field-0.reader.gate.txns (g.D.Disk.known d.log) (g.D.Disk.known d.slot_a) (g.D.Disk.known d.slot_b) c.in_ok-catalogue.ensures.ends c.args.limit r.result p.0 p.1 found.0 (p.2 ∙ found.1) (ap outcome_of found.2)
+    stopped-refused c.in_ok-catalogue.field-0.catalogue (outcome_of c.in_ok-catalogue.field-0.replayed) c.in_ok-catalogue.field-0.reader.gate.txns (each g.D.Disk.known d) c.in_ok-catalogue.ensures.ends c.args.limit r.result p.0 p.1 found.0 (p.2 ∙ found.1) (ap outcome_of found.2)
 
 pub returns-in_err-test_rows-clause-refused : goal.returns-in_err-test_rows-clause-refused
 returns-in_err-test_rows-clause-refused g c =
@@ -33,10 +33,10 @@ returns-in_err-test_rows-clause-refused g c =
     let p = err_from_is_err_and r.result r.ensures.1 in
     let excess = c.in_err-test_rows.field-0.0 in
     let found = c.in_err-test_rows.ensures.over excess refl in
-    over-refused c.in_ok-catalogue.field-0.catalogue (outcome_of c.in_ok-catalogue.field-0.replayed) c.in_ok-catalogue.field-0.reader.gate.txns (g.D.Disk.known d.log) (g.D.Disk.known d.slot_a) (g.D.Disk.known d.slot_b) c.in_ok-catalogue.ensures.ends c.args.limit r.result p.0 p.1 excess.table excess.rows excess.limit p.2 found.1
+    over-refused c.in_ok-catalogue.field-0.catalogue (outcome_of c.in_ok-catalogue.field-0.replayed) c.in_ok-catalogue.field-0.reader.gate.txns (each g.D.Disk.known d) c.in_ok-catalogue.ensures.ends c.args.limit r.result p.0 p.1 excess.table excess.rows excess.limit p.2 found.1
     c.in_ok-tables.tables.rows (ap outcome_of c.in_ok-tables.ensures.ok) found.0
 
 pub returns-clause-restored : goal.returns-clause-restored
 returns-clause-restored g c =
-    ended-recovered c.in_ok-catalogue.field-0.catalogue (outcome_of c.in_ok-catalogue.field-0.replayed) c.in_ok-catalogue.field-0.reader.gate.txns (g.D.Disk.known c.args.devices.now.log) (g.D.Disk.known c.args.devices.now.slot_a) (g.D.Disk.known c.args.devices.now.slot_b)
+    ended-recovered c.in_ok-catalogue.field-0.catalogue (outcome_of c.in_ok-catalogue.field-0.replayed) c.in_ok-catalogue.field-0.reader.gate.txns (each g.D.Disk.known c.args.devices.now)
     c.in_ok-catalogue.ensures.ends c.in_ok-tables.tables.rows (ap outcome_of c.in_ok-tables.ensures.ok)

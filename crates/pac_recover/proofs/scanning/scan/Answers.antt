@@ -1,6 +1,7 @@
 -- What is scanned is what was read, and the first refusal is that of the part that was read.
 use Rattle.std.proofs.Common.{◌∙◌, ap}
 use Rattle.std.proofs.lemmas.Result.{err_from_is_err_and}
+use Rattle.pac_outside.specs.Devices.{each}
 use Rattle.pac_log.specs.declared.position.NextGate.{NextGate}
 use Rattle.pac_check.specs.declared.slots.Slots.{Slots}
 use Rattle.pac_check.specs.SlotStates.{IsSlot}
@@ -28,15 +29,14 @@ returns-in_err-slots-clause-slot_damage g c = λ slot at kind is.
     let cause = the-cause r.result p.0 c.in_err-slots.field-0.0 (load.Damaged (Slot slot at kind)) p.1 p.2 is in
     let same = c.in_ok-catalogue.ensures ∙ c.catalogue.ensures.value ∙ ap (λ (gate : NextGate). gate.catalogue) c.gate.ensures in
     passed-damage c.in_ok-log.log c.in_ok-catalogue.catalogue c.deref.result.now slot at kind same c.deref.ensures.value
-    (g.D.Disk.known c.args.devices.now.log) (g.D.Disk.known c.args.devices.now.slot_a) (g.D.Disk.known c.args.devices.now.slot_b)
-    c.in_ok-log.ensures.holds (c.in_err-slots.ensures.damaged slot at kind (as-error _ _ cause))
+    (each g.D.Disk.known c.args.devices.now) c.in_ok-log.ensures.holds (c.in_err-slots.ensures.damaged slot at kind (as-error _ _ cause))
 
 pub returns-in_err-tables-clause-slot_damage : goal.returns-in_err-tables-clause-slot_damage
 returns-in_err-tables-clause-slot_damage g c = λ slot at kind is.
     let r = c.from_residual-in_err-tables in
     let p = err_from_is_err_and r.result r.ensures.1 in
     let cause = the-cause r.result p.0 c.in_err-tables.field-0.0 (load.Damaged (Slot slot at kind)) p.1 p.2 is in
-    known-never (IsDamagedSlot slot at kind) (g.D.Disk.known c.args.devices.now.log) (g.D.Disk.known c.args.devices.now.slot_a) (g.D.Disk.known c.args.devices.now.slot_b)
+    known-never (IsDamagedSlot slot at kind) (each g.D.Disk.known c.args.devices.now)
     (moved-known (λ x y. ⊥) _ _ _ _ c.in_ok-slots.ensures.same_a c.in_ok-slots.ensures.same_b (c.in_err-tables.ensures.whole slot at kind (as-error _ _ cause)))
 
 pub returns-clause-scanned : goal.returns-clause-scanned
@@ -45,8 +45,7 @@ returns-clause-scanned g c =
     let catalogue = c.in_ok-catalogue.catalogue in
     let slots = c.in_ok-slots.slots in
     known-together (HoldsGates log) (IsSlot catalogue.tables slots.a) (IsSlot catalogue.tables slots.b) (AreNewestOf catalogue slots c.in_ok-tables.tables.rows) (IsScannedFrom c.joined.result) c.joined.ensures.images
-    (g.D.Disk.known c.args.devices.now.log) (g.D.Disk.known c.args.devices.now.slot_a) (g.D.Disk.known c.args.devices.now.slot_b)
-    c.in_ok-log.ensures.holds c.in_ok-slots.ensures.a c.in_ok-slots.ensures.b
+    (each g.D.Disk.known c.args.devices.now) c.in_ok-log.ensures.holds c.in_ok-slots.ensures.a c.in_ok-slots.ensures.b
     (moved-known (AreNewestOf catalogue slots c.in_ok-tables.tables.rows) _ _ _ _ c.in_ok-slots.ensures.same_a c.in_ok-slots.ensures.same_b c.in_ok-tables.ensures.newest)
 
 pub returns-clause-quiet : goal.returns-clause-quiet

@@ -1,5 +1,6 @@
 -- What is said after the header of the log is said of the devices.
 use Rattle.std.proofs.Common.{◌≡◌, ◌∙◌, ap}
+use Rattle.pac_outside.specs.Devices.{each}
 use Rattle.pac_log.specs.declared.position.NextGate.{NextGate}
 use Rattle.pac_check.specs.declared.slots.Slots.{Slots}
 use Rattle.pac_recover.specs.Damages.{IsDamagedLog}
@@ -15,7 +16,7 @@ pub returns-in-Ok-clause-ends : goal.returns-in-Ok-clause-ends
 returns-in-Ok-clause-ends g c =
     let d = c.args.devices.now in
     let newest = c.in-Ok.newest in
-    ends-all c.in_ok-catalogue.catalogue newest.slots newest.tables.rows c.in_ok-reader.reader.gate (g.D.Disk.known d.log) (g.D.Disk.known d.slot_a) (g.D.Disk.known d.slot_b) (g.D.Disk.known c.attach.new.disk)
+    ends-all c.in_ok-catalogue.catalogue newest.slots newest.tables.rows c.in_ok-reader.reader.gate (each g.D.Disk.known d) (g.D.Disk.known c.attach.new.disk)
     c.in_ok-reader.ensures.same c.in_ok-reader.ensures.store c.replay_after.result c.replay_after.ensures.ends c.in-Ok.ensures.a c.in-Ok.ensures.b c.in-Ok.ensures.newest
 
 pub returns-in-Ok-clause-log_damage : goal.returns-in-Ok-clause-log_damage
@@ -26,7 +27,7 @@ returns-in-Ok-clause-log_damage g c = λ at kind is.
 pub returns-in-Ok-clause-slot_damage : goal.returns-in-Ok-clause-slot_damage
 returns-in-Ok-clause-slot_damage g c = λ slot at kind is.
     let d = c.args.devices.now in
-    misplaced-known c.in_ok-catalogue.catalogue c.in-Ok.newest.slots slot at kind c.in_ok-reader.reader.gate (g.D.Disk.known d.log) (g.D.Disk.known d.slot_a) (g.D.Disk.known d.slot_b) (g.D.Disk.known c.attach.new.disk)
+    misplaced-known c.in_ok-catalogue.catalogue c.in-Ok.newest.slots slot at kind c.in_ok-reader.reader.gate (each g.D.Disk.known d) (g.D.Disk.known c.attach.new.disk)
     c.in_ok-reader.ensures.same c.in_ok-reader.ensures.store (c.replay_after.ensures.slot_damage slot at kind is) c.in-Ok.ensures.a c.in-Ok.ensures.b
 
 pub returns-in-Err-Damaged-clause-log_damage : goal.returns-in-Err-Damaged-clause-log_damage
@@ -42,7 +43,7 @@ returns-in-Err-Damaged-clause-slot_damage g c = λ slot at kind is.
     let damage = c.first_damage.ensures.slot_damage slot at kind answer in
     let is_damaged = c.in-Err-Damaged.is in
     let was : c.in-Err-Damaged.field-0 ≡ load.Damaged (Slot slot at kind) = cc in
-    broken-known c.in_ok-catalogue.catalogue slot at kind c.in_ok-reader.reader.gate same (g.D.Disk.known d.log) (g.D.Disk.known d.slot_a) (g.D.Disk.known d.slot_b) (g.D.Disk.known c.attach.new.disk)
+    broken-known c.in_ok-catalogue.catalogue slot at kind c.in_ok-reader.reader.gate same (each g.D.Disk.known d) (g.D.Disk.known c.attach.new.disk)
     c.in_ok-reader.ensures.same c.in_ok-reader.ensures.store (c.first_damage.ensures.whole slot at kind answer)
     (c.in-Err-Damaged.ensures.damaged slot at kind (as-error _ _ was))
 

@@ -1,5 +1,6 @@
 -- An engine over what is stored.
 use Rattle.std.proofs.Common.{◌≡◌, ◌∙◌, None, length, sym, ap, subst}
+use Rattle.pac_outside.specs.Devices.{each}
 use Rattle.pac_log.specs.declared.log.LogParts.{LogParts}
 use Rattle.pac_check.specs.declared.slots.Slots.{Slots}
 use Rattle.pac_types.specs.Execution.{first_over}
@@ -11,7 +12,7 @@ pub returns-clause-opened : goal.returns-clause-opened
 returns-clause-opened g c =
     let restored = c.in_ok-catalogue.field-0 in
     opened-known c.new.result restored.catalogue restored.tables.rows restored.reader.gate (ap (λ (o : Open). o.catalogue) c.new.ensures.session) (ap (λ (o : Open). o.tables) c.new.ensures.session) (ap (λ (l : LogParts). l.gate) (c.new.ensures.log ∙ c.resume-log.ensures)) c.in_ok-catalogue.ensures.well_formed.same
-    (g.D.Disk.known c.args.devices.now.log) (g.D.Disk.known c.args.devices.now.slot_a) (g.D.Disk.known c.args.devices.now.slot_b) c.in_ok-catalogue.ensures.log c.in_ok-catalogue.ensures.restored
+    (each g.D.Disk.known c.args.devices.now) c.in_ok-catalogue.ensures.log c.in_ok-catalogue.ensures.restored
 
 pub returns-clause-log : goal.returns-clause-log
 returns-clause-log g c = gate-known c.in_ok-catalogue.field-0.reader.gate c.new.result.log.gate _ (ap (λ (l : LogParts). l.gate) (c.new.ensures.log ∙ c.resume-log.ensures)) c.in_ok-catalogue.ensures.log

@@ -68,7 +68,7 @@ returns-in_ok-text-in-Ok-clause-err g c = λ stop is.
     let same = only-err c.write.result _ stop c.write.ensures.only is in
     broke-of c.args.asked old c.step.new.self _ _ cat _ _ _ stop c.in-Ok.replies c.deref.result.now text c.write.ensures.says (e.keeps c.requires.goes_on) e.grows e.kept plain
     (λ start group within. subst (λ (s : RunStop). StepStops (rules_of old.session) old.log.gate.place start (cut_one (rules_of old.session) start group c.args.asked).closed c.in-Ok.replies s) (sym same) (e.closes start group within).replied)
-    (λ out. was-handled c.args.asked old c.step.new.self c.in-Ok.replies e.closes e.durable)
+    (λ out. was-handled c.args.asked old c.step.new.self c.in-Ok.replies e.closes e.small e.durable)
     (subst (λ (s : RunStop). KeepsGate c.args.asked old c.step.new.self s) (sym same) tt)
     (λ other. slots-same g.D.Disk.known c.args.devices.now c.step.new.devices (e.slots other))
     (λ disk. absurd (output-no-disk (sym same ∙ disk)))

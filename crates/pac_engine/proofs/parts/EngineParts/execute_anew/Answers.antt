@@ -68,7 +68,7 @@ returns-in-Ok-run g c = λ asked asks. record {
 pub returns-in-Err-run : goal.returns-in-Err-run
 returns-in-Err-run g c = λ asked asks. record {
   closes = λ start group within. tt;
-  stops = λ start group within. anew-unrun c.args.self.now c.requires.live asked c.args.txn asks c.requires.full c.requires.alone start group within c.in-Ok.replies c.in-Ok.ensures.given;
+  stops = λ start group within. anew-unrun c.args.self.now c.requires.live asked c.args.txn asks c.requires.full c.requires.alone start group within c.in-Ok.replies c.in-Ok.ensures.given c.in-Ok.ensures.room;
   kept = tt;
   kept_before = closed-kept c.args.self.now (with_session c.run.new.self c.close.new.self) c.in-Ok.replies c.requires.live.working (ap durable_of c.in-Ok.ensures.closed) c.in-Ok.ensures.given;
   live = tt;
