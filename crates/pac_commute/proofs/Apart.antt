@@ -1,5 +1,5 @@
 -- The cells that the access of keys of a piece covers are of tables whose home is its block, and two pieces of which neither
--- precedes the other have accesses that don't conflict.
+-- needs the other have accesses that don't conflict.
 use Rattle.std.proofs.Common.{◌≡◌, ℕ, ◌<◌, nat_lt, Bool, true, false, cond, ◌&&◌, ◌||◌, ◌==◌, List, [], ◌∷◌, refl, sym, ap, ◌∙◌, subst, true≢false, Option, Some, None, ◌⊎◌, inl, inr, ⊎_elim, arith}
 use Rattle.std.specs.List.{list_any}
 use Rattle.std.specs.Ordering.{eq_by_cmp}
@@ -15,15 +15,14 @@ use Rattle.pac_ops.specs.Effects.{cell_in, NumberedOp}
 use Rattle.pac_plan.specs.declared.access.Touch.{Touch}
 use Rattle.pac_plan.specs.declared.access.Access.{Access}
 use Rattle.pac_plan.specs.declared.access.Access.TheVariants.{Keys, Whole}
-use Rattle.pac_plan.specs.Pieces.{named_cell, World, ops, access, touch, touches_of, is_loose, may_pass, op_cell, conflicts, covers, precedes}
+use Rattle.pac_plan.specs.Pieces.{named_cell, World, ops, access, touch, touches_of, is_loose, may_pass, op_cell, conflicts, covers, needs}
 use Rattle.pac_plan.specs.WorldOrder.{WellFormed}
 use Rattle.pac_base.proofs.TestLemmas.{equal_number, and_left, and_right, and_both, or_left, or_right, any_mem, any_gives, mem_each, unlike}
 use Rattle.pac_ops.proofs.EffectLemmas.{touched-named, accessed-named, named-table}
 use Rattle.pac_plan.proofs.PartLemmas.{part-mem}
-use Rattle.pac_commute.proofs.Laws.{le_split}
 
 -- each touch is at the cell of an operation
-touch_from : (os : List NumberedOp) (env : Values) (more : List NumberedOp) (e : Touch) → Mem e (touches_of os env more) → (o : NumberedOp) × Mem o more × (op_cell o.1 env ≡ Some (named_cell e))
+pub touch_from : (os : List NumberedOp) (env : Values) (more : List NumberedOp) (e : Touch) → Mem e (touches_of os env more) → (o : NumberedOp) × Mem o more × (op_cell o.1 env ≡ Some (named_cell e))
 touch_from os env [] e m = absurd m
 touch_from os env (o ∷ more) e m = go (may_pass os env o.1.conds) (op_cell o.1 env) refl m (touch_from os env more e)
   where
@@ -45,7 +44,7 @@ or_turned true b e = or_right b true refl
 or_turned false b e = or_left b false e
 
 -- conflict is the same both ways
-conflicts_turned : (x y : Access) → conflicts x y ≡ true → conflicts y x ≡ true
+pub conflicts_turned : (x y : Access) → conflicts x y ≡ true → conflicts y x ≡ true
 conflicts_turned Whole Whole c = refl
 conflicts_turned Whole (Keys m) c = refl
 conflicts_turned (Keys l) Whole c = refl
@@ -73,7 +72,7 @@ module _ (w : World) (well_formed : WellFormed w) (env : ℕ → Values) where
           equal_number _ _ (touch_home p r.0 r.1 ∙ ap (λ (c : Cell). w.home c.0) (tied_same (named_cell r.0) a r.2))
 
   -- accesses of keys that conflict are of pieces of one block
-  conflict_block : (p q : PieceId) → (access w env p ≡ Whole → ⊥) → (access w env q ≡ Whole → ⊥) → conflicts (access w env p) (access w env q) ≡ true → p.block ≡ q.block
+  pub conflict_block : (p q : PieceId) → (access w env p ≡ Whole → ⊥) → (access w env q ≡ Whole → ⊥) → conflicts (access w env p) (access w env q) ≡ true → p.block ≡ q.block
   conflict_block p q kp kq c = go (list_any (is_loose (ops w p) (env p.txn)) (ops w p)) refl (list_any (is_loose (ops w q) (env q.txn)) (ops w q)) refl c
     where
       go : (b : Bool) → list_any (is_loose (ops w p) (env p.txn)) (ops w p) ≡ b → (c : Bool) → list_any (is_loose (ops w q) (env q.txn)) (ops w q) ≡ c
@@ -85,25 +84,16 @@ module _ (w : World) (well_formed : WellFormed w) (env : ℕ → Values) where
           let x = any_gives (λ (x : Touch). eq_by_cmp cell_cmp (named_cell d.0) (named_cell x) && (d.0.is_write || x.is_write)) (touches_of (ops w q) (env q.txn) (ops w q)) d.2 in
           touch_home p d.0 d.1 ∙ ap (λ (c : Cell). w.home c.0) (tied_same (named_cell d.0) (named_cell x.0) (and_left _ (d.0.is_write || x.0.is_write) x.2)) ∙ sym (touch_home q x.0 x.1)
 
-  -- two pieces of one block, the first of an earlier transaction
-  earlier : (p q : PieceId) → p.block ≡ q.block → p.txn < q.txn → precedes w env p q ≡ false → conflicts (access w env p) (access w env q) ≡ true → ⊥
-  earlier p q same lt none c = true≢false (sym (⊎_elim before together (le_split (w.batch p.txn) (w.batch q.txn) (well_formed.batches p.txn q.txn lt))) ∙ none)
-    where
-      block : (p.block == q.block) ≡ true
-      block = equal_number _ _ same
+  -- of two pieces of one block with accesses that conflict the later one needs the earlier one
+  needed_later : (p q : PieceId) → p.block ≡ q.block → p.txn < q.txn → conflicts (access w env p) (access w env q) ≡ true → needs w env p q ≡ true
+  needed_later p q same lt c = or_right (p.txn == q.txn && w.edge p.block q.block) _
+      (and_both (p.block == q.block && nat_lt p.txn q.txn) _ (and_both (p.block == q.block) _ (equal_number _ _ same) ((Decides-ltb _ _).1 lt)) c)
 
-      before : w.batch p.txn < w.batch q.txn → precedes w env p q ≡ true
-      before l = or_right (w.batch p.txn == w.batch q.txn && w.edge p.block q.block) _ (or_left (p.block == q.block && nat_lt (w.batch p.txn) (w.batch q.txn)) _ (and_both _ _ block ((Decides-ltb _ _).1 l)))
-
-      together : w.batch p.txn ≡ w.batch q.txn → precedes w env p q ≡ true
-      together e = or_right (w.batch p.txn == w.batch q.txn && w.edge p.block q.block) _ (or_right (p.block == q.block && nat_lt (w.batch p.txn) (w.batch q.txn)) _
-          (and_both _ _ (and_both _ _ (and_both _ _ block (equal_number _ _ e)) ((Decides-ltb _ _).1 lt)) c))
-
-  pub conflicts_home : (p q : PieceId) → (access w env p ≡ Whole → ⊥) → (access w env q ≡ Whole → ⊥) → (p ≡ q → ⊥)
-      → precedes w env p q ≡ false → precedes w env q p ≡ false → conflicts (access w env p) (access w env q) ≡ false
-  conflicts_home p q kp kq differ pq qp = unlike _ (λ c. let same : p.block ≡ q.block = conflict_block p q kp kq c in
-      ⊎_elim (λ l. earlier p q same l pq c)
-      (λ r. ⊎_elim (λ e. differ (λ i. record { txn = e i; block = same i })) (λ g. earlier q p (sym same) g qp (conflicts_turned (access w env p) (access w env q) c)) r)
+  pub apart_by_needs : (p q : PieceId) → (access w env p ≡ Whole → ⊥) → (access w env q ≡ Whole → ⊥) → (p ≡ q → ⊥)
+      → needs w env p q ≡ false → needs w env q p ≡ false → conflicts (access w env p) (access w env q) ≡ false
+  apart_by_needs p q kp kq differ pq qp = unlike _ (λ c. let same : p.block ≡ q.block = conflict_block p q kp kq c in
+      ⊎_elim (λ l. true≢false (sym (needed_later p q same l c) ∙ pq))
+      (λ r. ⊎_elim (λ e. differ (λ i. record { txn = e i; block = same i })) (λ g. true≢false (sym (needed_later q p (sym same) g (conflicts_turned (access w env p) (access w env q) c)) ∙ qp)) r)
       (three p.txn q.txn))
     where
       three : (a b : ℕ) → (a < b) ⊎ ((a ≡ b) ⊎ (b < a))

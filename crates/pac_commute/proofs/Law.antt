@@ -110,6 +110,13 @@ module _ (w : World) (well_formed : WellFormed w) where
         (laws w well_formed env) F L s s (closed F L L (λ q m. m) order holds) (whole_good L order s ends)
         (turns.start_alike Present Location (Option RowValues × Option Value) (Option Note) (List Note) PieceId at_location (λ s. s.note) (apply w) (says w) noted_by (touches w env) (writes w env) (HasInputs w env) (laws w well_formed env) F L s)
 
+    pub turn_of : (before after : List PieceId) (p : PieceId) (s : Present) (F : PieceId → Bool) → Good_turns F (before ++ p ∷ after) s → F p ≡ true → HasInputs w env p (partial w F before s)
+    unfolding run
+    turn_of before after p s F good picked =
+        subst (HasInputs w env p) (sym (partial-run F before s))
+        ((turns.turns_after Present Location (Option RowValues × Option Value) (Option Note) (List Note) PieceId at_location (λ s. s.note) (apply w) (says w) noted_by (touches w env) (writes w env) (HasInputs w env)
+        (laws w well_formed env) F before (p ∷ after) s good).0 picked)
+
     exchange_at : (before after : List PieceId) (p : PieceId) (s : Present) (F : PieceId → Bool) → Each (λ q. Below q p) before → Each (Below p) after
         → F p ≡ false → Is_closed F (before ++ p ∷ after) → Is_closed (adds F p) (before ++ p ∷ after) → Good_turns (λ q. true) (before ++ p ∷ after) s
         → (run (adds F p) (before ++ p ∷ after) s ≡ apply w p (run F (before ++ p ∷ after) s)) × HasInputs w env p (run F (before ++ p ∷ after) s)

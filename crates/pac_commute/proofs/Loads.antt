@@ -103,7 +103,7 @@ mem-left x [] ys m = absurd m
 mem-left x (y ∷ xs) ys (inl e) = inl e
 mem-left x (y ∷ xs) ys (inr m) = inr (mem-left x xs ys m)
 
-txn_of_block : (w : World) (p : PieceId) (t : ℕ) (bs : List ℕ) → Mem p (blocks_of w t bs) → p.txn ≡ t
+pub txn_of_block : (w : World) (p : PieceId) (t : ℕ) (bs : List ℕ) → Mem p (blocks_of w t bs) → p.txn ≡ t
 txn_of_block w p t [] m = absurd m
 txn_of_block w p t (b ∷ bs) m = go (has_ops (ops w (record { txn = t; block = b }))) m (txn_of_block w p t bs)
   where

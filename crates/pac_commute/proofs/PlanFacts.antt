@@ -2,10 +2,10 @@
 use Rattle.std.proofs.Common.{◌∙◌, ap, length}
 use Rattle.pac_plan.specs.Pieces.{Present}
 use Rattle.pac_plan.specs.WorldOrder.{WellFormed}
-use Rattle.pac_commute.specs.Exchange.{Exchange, ExchangeByNeeds, InputsKnown, Undisturbed, End}
+use Rattle.pac_commute.specs.Exchange.{Exchange, ExchangeByNeeds, InputsAtTurns, InputsKnown, Undisturbed, End}
 use Rattle.pac_plan.specs.Worlds.{batch_of, blocks_in, initial}
 use Rattle.pac_commute.specs.PlanLaws.{txns_of, numbers_of, OfPlan, OfWorlds, planned, EndsAsReplayed}
-use Rattle.pac_commute.proofs.Theorem.{exchange_law, needs_law, inputs_law, undisturbed_law, end_law}
+use Rattle.pac_commute.proofs.Theorem.{exchange_law, needs_law, inputs_law, turns_law, undisturbed_law, end_law}
 use Rattle.pac_plan.proofs.WorldLemmas.{well_formed_world, fits_blocks, rises-range, batches_rise}
 use Rattle.pac_commute.proofs.Replays.{is_replay}
 use Rattle.pac_plan.proofs.OrderLemmas.{order_kept}
@@ -26,6 +26,11 @@ needs_plan parts is first batches run_on fits =
 pub inputs_plan : OfPlan InputsKnown
 inputs_plan parts is first batches run_on fits =
     inputs_law (planned parts first batches) (well_formed_plan parts is first batches) (numbers_of first batches) (blocks_in parts)
+    (rises-range first (length (txns_of batches))) (rises-range 0 parts.blocks) (fits_blocks parts is first (batch_of batches) (txns_of batches) fits)
+
+pub turns_plan : OfPlan InputsAtTurns
+turns_plan parts is first batches run_on fits =
+    turns_law (planned parts first batches) (well_formed_plan parts is first batches) (numbers_of first batches) (blocks_in parts)
     (rises-range first (length (txns_of batches))) (rises-range 0 parts.blocks) (fits_blocks parts is first (batch_of batches) (txns_of batches) fits)
 
 pub undisturbed_plan : OfPlan Undisturbed

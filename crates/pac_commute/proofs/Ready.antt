@@ -75,7 +75,7 @@ module _ (w : World) where
 
 module _ (w : World) (well_formed : WellFormed w) (env : ℕ → Values) where
   -- a predecessor is not above, and another piece
-  lower : (q p : PieceId) → precedes w env q p ≡ true → NotAbove w p q → ⊥
+  pub lower : (q p : PieceId) → precedes w env q p ≡ true → NotAbove w p q → ⊥
   lower q p e n = ⊎_elim first (λ r. ⊎_elim second third (or_cases b2 b3 r)) (or_cases b1 (b2 || b3) e)
     where
       b1 : Bool
@@ -106,7 +106,7 @@ module _ (w : World) (well_formed : WellFormed w) (env : ℕ → Values) where
           let batch : w.batch q.txn ≡ w.batch p.txn = (Decides-eqb _ _).0 (and_right (q.block == p.block) _ two) in
           omega arith
 
-  yes_true : (b : Bool) → (b ≡ false → ⊥) → b ≡ true
+  pub yes_true : (b : Bool) → (b ≡ false → ⊥) → b ≡ true
   yes_true true f = refl
   yes_true false f = absurd (f refl)
 

@@ -1,13 +1,13 @@
 -- The exchange theorems, over all pieces of a list of transactions.
-use Rattle.std.proofs.Common.{◌≡◌, ℕ, ◌<◌, Bool, true, false, cond, List, [], ◌∷◌, ◌++◌, refl, ap, ◌∙◌, inl, inr}
+use Rattle.std.proofs.Common.{◌≡◌, ℕ, ◌<◌, Bool, true, false, cond, List, [], ◌∷◌, ◌++◌, refl, ap, subst, ◌∙◌, inl, inr}
 use Rattle.std.specs.FinMap.{get}
 use Rattle.pac_ops.specs.declared.piece.PieceId.{PieceId}
 use Rattle.pac_base.specs.Members.{Each, Mem, Rises}
 use Rattle.pac_plan.specs.Pieces.{Present, run_ops, World, apply, partial, blocks_of, pieces, replayed_in, every}
 use Rattle.pac_plan.specs.WorldOrder.{WellFormed, FitsBlocks}
-use Rattle.pac_commute.specs.Exchange.{env_after, Exchange, ExchangeByNeeds, InputsKnown, Undisturbed, End}
+use Rattle.pac_commute.specs.Exchange.{env_after, Exchange, ExchangeByNeeds, InputsAtTurns, InputsKnown, Undisturbed, End}
 use Rattle.pac_commute.proofs.Laws.{precedes_needed}
-use Rattle.pac_commute.proofs.Law.{Below, InOrder, exchange, inputs, undisturbed}
+use Rattle.pac_commute.proofs.Law.{Below, Good_turns, InOrder, exchange, inputs, picked_turns, turn_of, undisturbed}
 use Rattle.pac_commute.proofs.Order.{one_txn}
 
 pub partial-append : (w : World) (F : PieceId → Bool) (xs ys : List PieceId) (s : Present) → partial w F (xs ++ ys) s ≡ partial w F ys (partial w F xs s)
@@ -81,6 +81,14 @@ pub inputs_law : (w : World) → WellFormed w → (ts bs : List ℕ) → Rises t
 inputs_law w well_formed ts bs rises up inside s F p holds preds =
     inputs w well_formed (env_after w ts s) (pieces w ts bs) (in_order w ts bs rises up) s
     (λ t x. ap (λ (z : Present). get (z.envs t) x) (whole w well_formed ts bs up inside s)) F p holds preds
+
+pub turns_law : (w : World) → WellFormed w → (ts bs : List ℕ) → Rises ts → Rises bs → FitsBlocks w ts bs → InputsAtTurns w ts bs
+turns_law w well_formed ts bs rises up inside s F holds before after p parts picked =
+    turn_of w well_formed (env_after w ts s) before after p s F
+    (subst (λ L. Good_turns w well_formed (env_after w ts s) F L s) parts
+    (picked_turns w well_formed (env_after w ts s) (pieces w ts bs) (in_order w ts bs rises up) s
+    (λ t x. ap (λ (z : Present). get (z.envs t) x) (whole w well_formed ts bs up inside s)) F holds))
+    picked
 
 pub undisturbed_law : (w : World) → WellFormed w → (ts bs : List ℕ) → Rises ts → Rises bs → FitsBlocks w ts bs → Undisturbed w ts bs
 undisturbed_law w well_formed ts bs rises up inside s =

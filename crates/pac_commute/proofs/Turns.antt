@@ -186,7 +186,7 @@ module _ (S C V N M P : Type 0)
     run-append F [] ys s = refl
     run-append F (x ∷ xs) ys s = run-append F xs ys (cond (F x) (step x s) s)
 
-    turns_after : (F : P → Bool) (xs ys : List P) (s : S) → GoodTurns F (xs ++ ys) s → GoodTurns F ys (run F xs s)
+    pub turns_after : (F : P → Bool) (xs ys : List P) (s : S) → GoodTurns F (xs ++ ys) s → GoodTurns F ys (run F xs s)
     turns_after F [] ys s good = good
     turns_after F (x ∷ xs) ys s good = turns_after F xs ys (cond (F x) (step x s) s) good.1
 

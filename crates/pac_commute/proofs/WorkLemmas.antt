@@ -1,23 +1,17 @@
 -- Work on copies is work in the state.
-use Rattle.std.proofs.Common.{◌≡◌, ℕ, ◌==◌, Bool, true, false, cond, ◌||◌, List, [], ◌∷◌, refl, sym, ap, ◌∙◌, subst, true≢false, Option, Some, None, ◌⊎◌, inl, inr, ⊎_elim}
+use Rattle.std.proofs.Common.{◌≡◌, ℕ, ◌==◌, Bool, true, false, cond, ◌||◌, List, [], ◌∷◌, refl, sym, ap, ◌∙◌, subst, true≢false, Option, Some, None, ◌⊎◌, inl, inr}
 use Rattle.std.specs.Cmp.{nat_cmp_total, unsigned_ties}
-use Rattle.std.specs.Ordering.{eq_by_cmp}
-use Rattle.std.specs.List.{list_any}
-use Rattle.std.specs.FinMap.{get, get-insert, get-remove, get-empty}
+use Rattle.std.specs.FinMap.{get, get-insert, get-remove}
 use Rattle.pac_value.specs.declared.values.Value.{Value}
 use Rattle.pac_value.specs.Expressions.{Values}
-use Rattle.pac_value.specs.State.{Cell, cell_cmp, RowValues, Tables}
-use Rattle.pac_value.proofs.CellLemmas.{same-cell, tied_same, get-with_row}
+use Rattle.pac_value.specs.State.{Cell, RowValues}
 use Rattle.pac_ops.specs.declared.piece.PieceId.{PieceId}
 use Rattle.pac_ops.specs.Notes.{first_note, least}
 use Rattle.pac_ops.specs.Operations.{State}
-use Rattle.pac_base.specs.Members.{Mem}
-use Rattle.pac_plan.specs.declared.access.Touch.{Touch}
-use Rattle.pac_plan.specs.declared.access.Access.TheVariants.{Keys}
-use Rattle.pac_plan.specs.Pieces.{named_cell, Present, of_txn, World, ops, apply, partial, pieces, part, access, covers, HasInputs, Location, RowOf, VarOf, at_location, touches, writes}
+use Rattle.pac_plan.specs.Pieces.{Present, of_txn, World, ops, apply, partial, pieces, part, access, covers, HasInputs, Location, RowOf, VarOf, at_location, touches, writes}
 use Rattle.pac_ops.specs.Effects.{defined_in, used_in, RowAt, VarAt}
 use Rattle.pac_plan.specs.WorldOrder.{WellFormed}
-use Rattle.pac_commute.specs.Works.{IsWork, worked, IsOutcome, put_over, given_over, IsPut, WorkIsApply, WithinAccess, Fresh, copied_rows, with_value, copied_values, CopiesAreWork}
+use Rattle.pac_commute.specs.Works.{IsWork, worked, IsOutcome, put_over, given_over, IsPut, WorkIsApply, WithinAccess, Fresh, with_value}
 use Rattle.pac_base.proofs.TestLemmas.{eq_self, same_number, equal_number, and_right, and_both, or_cases, unlike, or_right}
 use Rattle.pac_commute.proofs.Present.{same_present}
 use Rattle.pac_ops.proofs.FrameLemmas.{AlikeOn, alike_ops, said_alike}
@@ -27,7 +21,7 @@ use Rattle.pac_ops.proofs.DefinedLemmas.{undefined_meaning}
 
 module _ (w : World) (well_formed : WellFormed w) where
   pub within_access : WithinAccess w
-  within_access env p s good = ((laws w well_formed env).kept p s good, λ s' alike. (laws w well_formed env).alike p s s' good alike)
+  within_access env p s good = ((laws w well_formed env).kept p s good, λ s' alike. ((laws w well_formed env).alike p s s' good alike, (laws w well_formed env).said_alike p s s' good alike))
 
   module _ (env : ℕ → Values) (p : PieceId) (s : Present) (work : State) (good : HasInputs w env p s) (is : IsWork w env p s work) where
     alike : AlikeOn (spots p.txn (touches w env p)) (of_txn p.txn s) work
@@ -126,38 +120,8 @@ module _ (w : World) (well_formed : WellFormed w) where
   pub fresh_law : (ts bs : List ℕ) → Fresh w ts bs
   fresh_law ts bs s F p out x d = stays_fresh F p out (pieces w ts bs) s x d
 
--- ---- copies
-
-row_copied : (l : List Touch) (tables : Tables) (a : Cell) → covers (Keys l) a ≡ true → get (copied_rows l tables) a ≡ get tables a
-row_copied [] tables a h = absurd (true≢false (sym h))
-row_copied (e ∷ es) tables a h = get-with_row (copied_rows es tables) (named_cell e) (get tables (named_cell e)) a ∙ go (eq_by_cmp cell_cmp a (named_cell e)) refl (row_copied es tables a)
-  where
-    other : eq_by_cmp cell_cmp a (named_cell e) ≡ false → eq_by_cmp cell_cmp (named_cell e) a ≡ false
-    other f = unlike _ (λ t. true≢false (sym (ap (λ x. eq_by_cmp cell_cmp a x) (tied_same (named_cell e) a t) ∙ same-cell a) ∙ f))
-
-    go : (b : Bool) → eq_by_cmp cell_cmp a (named_cell e) ≡ b → (list_any (λ (e : Touch). eq_by_cmp cell_cmp (named_cell e) a) es ≡ true → get (copied_rows es tables) a ≡ get tables a)
-        → cond b (get tables (named_cell e)) (get (copied_rows es tables) a) ≡ get tables a
-    go true t rest = ap (get tables) (sym (tied_same a (named_cell e) t))
-    go false f rest = rest (⊎_elim (λ k. absurd (true≢false (sym k ∙ other f))) (λ k. k) (or_cases (eq_by_cmp cell_cmp (named_cell e) a) _ h))
+-- ---- values that are put in
 
 pub get-with_value : (env : Values) (x : ℕ) (v : Option Value) (y : ℕ) → get (with_value env x v) y ≡ cond (y == x) v (get env y)
 get-with_value env x None y = get-remove nat_cmp_total env x y ∙ ap (λ b. cond b None (get env y)) (sym (unsigned_ties y x))
 get-with_value env x (Some v) y = get-insert nat_cmp_total env x v y ∙ ap (λ b. cond b (Some v) (get env y)) (sym (unsigned_ties y x))
-
-value_copied : (xs : List ℕ) (env : Values) (x : ℕ) → Mem x xs ⊎ (get env x ≡ None) → get (copied_values xs env) x ≡ get env x
-value_copied [] env x (inl m) = absurd m
-value_copied [] env x (inr none) = get-empty _ x ∙ sym none
-value_copied (y ∷ ys) env x h = get-with_value (copied_values ys env) y (get env y) x ∙ go (x == y) refl (value_copied ys env x)
-  where
-    go : (b : Bool) → (x == y) ≡ b → (Mem x ys ⊎ (get env x ≡ None) → get (copied_values ys env) x ≡ get env x) → cond b (get env y) (get (copied_values ys env) x) ≡ get env x
-    go true e rest = ap (get env) (sym (same_number x y e))
-    go false f rest = rest (⊎_elim
-        (λ m. ⊎_elim (λ same. absurd (true≢false (sym (equal_number x y same) ∙ f))) (λ k. inl k) m)
-        (λ none. inr none) h)
-
-pub copies_are_work : (w : World) → CopiesAreWork w
-copies_are_work w env p s l xs keys has fresh = record {
-  rows = λ a c. row_copied l s.tables a (ap (λ z. covers z a) (sym keys) ∙ c);
-  inputs = λ x u d. value_copied xs (s.envs p.txn) x (inl (has x u d));
-  fresh = λ x d. value_copied xs (s.envs p.txn) x (inr (fresh x d));
-}

@@ -1,5 +1,5 @@
 -- The laws of partial replay: which piece may come last, which inputs it finds, and what all pieces leave.
-use Rattle.std.specs.Prelude.{◌≡◌, ℕ, Bool, true, false, ◌&&◌, ◌==◌, List}
+use Rattle.std.specs.Prelude.{◌≡◌, ℕ, Bool, true, false, ◌&&◌, ◌==◌, List, ◌∷◌, ◌++◌}
 use Rattle.pac_value.specs.Expressions.{Values}
 use Rattle.pac_ops.specs.declared.piece.PieceId.{PieceId}
 use Rattle.pac_base.specs.Members.{Mem}
@@ -45,6 +45,13 @@ InputsKnown w ts bs =
     (s : Present) (F : PieceId → Bool) (p : PieceId) → HoldsNeeds w (env_after w ts s) (pieces w ts bs) F
     → ((q : PieceId) → Mem q (pieces w ts bs) → (q.txn == p.txn && w.edge q.block p.block) ≡ true → F q ≡ true)
     → HasInputs w (env_after w ts s) p (partial w F (pieces w ts bs) s)
+
+-- and each piece of F has them at its turn, once those pieces of F have been applied that come before it
+abbrev pub InputsAtTurns : World → List ℕ → List ℕ → Type 0
+InputsAtTurns w ts bs =
+    (s : Present) (F : PieceId → Bool) → HoldsNeeds w (env_after w ts s) (pieces w ts bs) F
+    → (before after : List PieceId) (p : PieceId) → pieces w ts bs ≡ before ++ p ∷ after → F p ≡ true
+    → HasInputs w (env_after w ts s) p (partial w F before s)
 
 -- while p waits for nothing, another such piece leaves what p touches as it was
 abbrev pub Undisturbed : World → List ℕ → List ℕ → Type 0

@@ -1,5 +1,5 @@
 -- Laws of two pieces, of readiness without barriers, and of hand-out: which piece is taken.
-use Rattle.std.specs.Prelude.{◌≡◌, ◌⊎◌, ℕ, ◌<◌, Bool, true, false, if◌then◌else◌, ◌&&◌, ◌||◌, ◌==◌, not, nat_lt, List, [], ◌∷◌, Option, Some, None}
+use Rattle.std.specs.Prelude.{◌≡◌, ◌⊎◌, ℕ, ◌<◌, Bool, true, false, ◌&&◌, ◌||◌, ◌==◌, nat_lt, List, Option, Some, None}
 use Rattle.pac_value.specs.Expressions.{Values}
 use Rattle.pac_ops.specs.declared.piece.PieceId.{PieceId}
 use Rattle.pac_base.specs.Members.{Mem}
@@ -55,35 +55,7 @@ comes_before w p q =
     nat_lt (w.batch p.txn) (w.batch q.txn)
     || (w.batch p.txn == w.batch q.txn && (nat_lt p.block q.block || (p.block == q.block && nat_lt p.txn q.txn)))
 
--- each predecessor of a piece is finished
-abbrev pub preds_finished : World → (ℕ → Values) → List PieceId → (PieceId → Bool) → PieceId → Bool
-preds_finished w env [] finished p = true
-preds_finished w env (q ∷ qs) finished p = (finished q || not (precedes w env q p)) && preds_finished w env qs finished p
-
--- a piece is neither out nor finished, and its predecessors are finished
-abbrev pub is_ready : World → (ℕ → Values) → List PieceId → (PieceId → Bool) → (PieceId → Bool) → PieceId → Bool
-is_ready w env L out finished p = not (out p) && (not (finished p) && preds_finished w env L finished p)
-
--- the first of a piece and another one, where there is one
-abbrev pub first_of_two : World → PieceId → Option PieceId → PieceId
-first_of_two w p None = p
-first_of_two w p (Some q) = if comes_before w q p then q else p
-
--- the first ready piece of some
-abbrev pub first_ready : World → (ℕ → Values) → List PieceId → (PieceId → Bool) → (PieceId → Bool) → List PieceId → Option PieceId
-first_ready w env L out finished [] = None
-first_ready w env L out finished (p ∷ ps) =
-    if is_ready w env L out finished p then Some (first_of_two w p (first_ready w env L out finished ps)) else first_ready w env L out finished ps
-
--- the piece that is taken: the first one that is ready
-abbrev pub next_piece : World → (ℕ → Values) → List PieceId → (PieceId → Bool) → (PieceId → Bool) → Option PieceId
-next_piece w env L out finished = first_ready w env L out finished L
-
 -- what is taken: a ready piece that no ready one comes before; nothing only where none is ready
 abbrev pub IsPieceTaken : World → (ℕ → Values) → List PieceId → (PieceId → Bool) → (PieceId → Bool) → Option PieceId → Type 0
 IsPieceTaken w env L out finished None = (q : PieceId) → IsReadyPiece w env L out finished q → ⊥
 IsPieceTaken w env L out finished (Some p) = IsReadyPiece w env L out finished p × ((q : PieceId) → IsReadyPiece w env L out finished q → comes_before w q p ≡ false)
-
--- what is taken is so for each list of pieces, whatever is out and finished
-abbrev pub TakesFirst : World → Type 0
-TakesFirst w = (env : ℕ → Values) (L : List PieceId) (out finished : PieceId → Bool) → IsPieceTaken w env L out finished (next_piece w env L out finished)

@@ -1,4 +1,3 @@
-pub mod SerialEnd
 pub mod Machine
 pub mod Loads
 pub mod HandOut
@@ -6,5 +5,3 @@ pub mod PartialFits
 pub mod PlanLaws
 pub mod Works
 pub mod Exchange
-pub mod Bank
-pub mod Examples

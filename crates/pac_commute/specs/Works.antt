@@ -1,17 +1,14 @@
 -- Work on copies: what a piece holds, what it made of that, and what stands once that is put back.
-use Rattle.std.specs.Prelude.{◌≡◌, ℕ, Bool, true, false, List, [], ◌∷◌, Option, Some, None}
-use Rattle.std.specs.FinMap.{get, insert, remove, empty}
+use Rattle.std.specs.Prelude.{◌≡◌, ℕ, Bool, true, false, List, Option, Some, None}
+use Rattle.std.specs.FinMap.{get, insert, remove}
 use Rattle.pac_value.specs.declared.values.Value.{Value}
 use Rattle.pac_value.specs.Expressions.{Values}
-use Rattle.pac_value.specs.State.{Cell, RowValues, Tables, with_row}
+use Rattle.pac_value.specs.State.{Cell, RowValues}
 use Rattle.pac_ops.specs.declared.piece.PieceId.{PieceId}
 use Rattle.pac_ops.specs.Notes.{first_note, least}
 use Rattle.pac_ops.specs.Operations.{State}
-use Rattle.pac_base.specs.Members.{Mem}
 use Rattle.pac_ops.specs.Effects.{numbered_meaning, numbered_notes, defined_in, used_in}
-use Rattle.pac_plan.specs.declared.access.Touch.{Touch}
-use Rattle.pac_plan.specs.declared.access.Access.TheVariants.{Keys}
-use Rattle.pac_plan.specs.Pieces.{named_cell, Present, World, ops, apply, partial, pieces, access, covers, HasInputs, Location, RowOf, at_location, touches, writes}
+use Rattle.pac_plan.specs.Pieces.{Present, of_txn, World, ops, apply, partial, pieces, access, covers, HasInputs, Location, RowOf, at_location, touches, writes}
 
 -- the work has the state's rows of the access, its inputs, and its values of the variables that the piece defines
 pub record IsWork (w : World) (env : ℕ → Values) (p : PieceId) (s : Present) (work : State) : Type 0 where
@@ -52,36 +49,21 @@ abbrev pub WorkIsApply : World → Type 0
 WorkIsApply w = (env : ℕ → Values) (p : PieceId) (s s' : Present) (work : State) (rows : Cell → Option (Option RowValues)) (outs : ℕ → Option Value)
     → HasInputs w env p s → IsWork w env p s work → IsOutcome w env p work rows outs → IsPut w p work rows outs s s' → s' ≡ apply w p s
 
--- what a piece does depends on its inputs and on the rows of its access alone, and it changes nothing but what it writes
+-- a piece changes nothing but what it writes; and what it makes of what it touches, and its notes, depend on what it touches alone: on its inputs
+-- and the rows of its access
 abbrev pub WithinAccess : World → Type 0
 WithinAccess w = (env : ℕ → Values) (p : PieceId) (s : Present) → HasInputs w env p s
     → ((c : Location) → writes w env p c ≡ false → at_location (apply w p s) c ≡ at_location s c)
-    × ((s' : Present) → ((c : Location) → touches w env p c ≡ true → at_location s c ≡ at_location s' c) → (c : Location) → touches w env p c ≡ true → at_location (apply w p s) c ≡ at_location (apply w p s') c)
+    × ((s' : Present) → ((c : Location) → touches w env p c ≡ true → at_location s c ≡ at_location s' c)
+    → ((c : Location) → touches w env p c ≡ true → at_location (apply w p s) c ≡ at_location (apply w p s') c)
+    × (numbered_notes (w.vars p.txn) p.txn (ops w p) (of_txn p.txn s) ≡ numbered_notes (w.vars p.txn) p.txn (ops w p) (of_txn p.txn s')))
 
 -- a piece that isn't in F has given nothing
 abbrev pub Fresh : World → List ℕ → List ℕ → Type 0
 Fresh w ts bs = (s : Present) (F : PieceId → Bool) (p : PieceId) → F p ≡ false
     → (x : ℕ) → defined_in (ops w p) x ≡ true → get ((partial w F (pieces w ts bs) s).envs p.txn) x ≡ get (s.envs p.txn) x
 
--- copies of the rows at the keys of an access
-abbrev pub copied_rows : List Touch → Tables → Tables
-copied_rows [] tables = empty
-copied_rows (e ∷ es) tables = with_row (copied_rows es tables) (named_cell e) (get tables (named_cell e))
-
 -- a variable has this value, or none
 abbrev pub with_value : Values → ℕ → Option Value → Values
 with_value env x None = remove env x
 with_value env x (Some v) = insert env x v
-
--- copies of the values of variables
-abbrev pub copied_values : List ℕ → Values → Values
-copied_values [] env = empty
-copied_values (x ∷ xs) env = with_value (copied_values xs env) x (get env x)
-
--- copies of what an access of keys and these variables name are a piece's work, where the piece has given nothing
-abbrev pub CopiesAreWork : World → Type 0
-CopiesAreWork w = (env : ℕ → Values) (p : PieceId) (s : Present) (l : List Touch) (xs : List ℕ)
-    → access w env p ≡ Keys l
-    → ((x : ℕ) → used_in (ops w p) x ≡ true → defined_in (ops w p) x ≡ false → Mem x xs)
-    → ((x : ℕ) → defined_in (ops w p) x ≡ true → get (s.envs p.txn) x ≡ None)
-    → IsWork w env p s (record { env = copied_values xs (s.envs p.txn); tables = copied_rows l s.tables })

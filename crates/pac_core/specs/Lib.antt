@@ -7,5 +7,6 @@ pub mod Links
 pub mod Places
 pub mod Moves
 pub mod Calls
+pub mod Events
 pub mod Results
 pub mod FedExecution
