@@ -15,7 +15,7 @@ use Rattle.pac_sched.proofs.StateLemmas.{get_same}
 use Rattle.pac_sets.specs.declared.set_id.SetId.{SetId}
 use Rattle.pac_sets.specs.Sets.{Kept, with_kept_at}
 use Rattle.pac_commute.specs.Loads.{Job}
-use Rattle.pac_commute.specs.Machine.{Invariant, Machine, among}
+use Rattle.pac_commute.specs.Machine.{Keeps, KeepsOrder, Machine, among}
 use Rattle.pac_commute.proofs.Steps as steps
 use Rattle.pac_core.specs.declared.progress.Progress.{Progress}
 use Rattle.pac_core.specs.declared.stage.OpenSet.{OpenSet}
@@ -23,7 +23,7 @@ use Rattle.pac_core.specs.declared.stage.SetStage.{SetStage}
 use Rattle.pac_core.specs.declared.stage.SetStage.TheVariants.{Waiting, Open}
 use Rattle.pac_core.specs.Links.{AreStages, IsOpened, IsStageOf, IsUnfinishedBatch, KeepsBatch, KeepsProgress, KeepsValues, batches_of, mark_in, pieces_marked, replay_so_far}
 use Rattle.pac_core.specs.Replay.{Replay, left, loaded_pieces, machine_of, present_of, without_out}
-use Rattle.pac_core.proofs.Alike.{invariant_is, present_is}
+use Rattle.pac_core.proofs.Alike.{invariant_is, order_is, present_is}
 use Rattle.pac_core.proofs.KeptAt.{equal_or_not, get_changed, get_other, ids_stay, passes_still, still_up}
 use Rattle.pac_core.proofs.Lists.{filter_of}
 use Rattle.pac_core.proofs.Marks.{out_is}
@@ -83,11 +83,14 @@ module _ (job : Job) (p : Progress) (keeps : KeepsProgress job p) (at : ℕ) (id
   finished_loaded : (q : PieceId) → Mem q r.finished → Mem q (loaded_pieces r)
   finished_loaded q mem = (filter_of (λ q. is_finished (mark_in (batches_of p) p.sets.sets q)) (loaded_pieces r) q mem).0
 
-  invariant_now : Invariant job (machine_of (without_out r piece))
-  invariant_now = invariant_is (without_out r piece) r.out r.finished m.now keeps.machine (λ q mem. refl) finished_loaded out_among
+  invariant_now : Keeps job (machine_of (without_out r piece))
+  invariant_now = invariant_is (without_out r piece) m.out m.finished m.now keeps.machine (λ q mem. refl) finished_loaded out_among
+
+  order_now : KeepsOrder job (machine_of (without_out r piece))
+  order_now = order_is (without_out r piece) m.out m.finished m.now keeps.machine (λ q mem. refl) finished_loaded out_among keeps.order
 
   pub present_now : m.now ≡ present_of (without_out r piece)
-  present_now = present_is (without_out r piece) r.out r.finished m.now keeps.machine (λ q mem. refl) finished_loaded out_among
+  present_now = present_is (without_out r piece) m.out m.finished m.now keeps.machine (λ q mem. refl) finished_loaded out_among
 
   opened_still : (s : SetId) (ts : List ℕ) (o : OpenSet) → IsOpened r p.sets.sets s ts o → IsOpened (without_out r piece) new.sets.sets s ts o
   opened_still s ts o is = record {
@@ -159,7 +162,8 @@ module _ (job : Job) (p : Progress) (keeps : KeepsProgress job p) (at : ℕ) (id
     blocks = keeps.blocks;
     is_plan = keeps.is_plan;
     fit = keeps.fit;
-    machine = subst (λ (x : Replay). Invariant job (machine_of x)) (sym back_now) invariant_now;
+    machine = subst (λ (x : Replay). Keeps job (machine_of x)) (sym back_now) invariant_now;
+    order = subst (λ (x : Replay). KeepsOrder job (machine_of x)) (sym back_now) order_now;
     note = keeps.note ∙ ap (λ (s : Present). s.note) present_now ∙ ap (λ (x : Replay). (present_of x).note) (sym back_now);
     next = keeps.next;
     unfinished = keeps.unfinished ∙ ap left (sym back_now);

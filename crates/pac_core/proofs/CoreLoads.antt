@@ -15,7 +15,7 @@ use Rattle.pac_sets.specs.SetOrder.{set_cmp}
 use Rattle.pac_sets.specs.Sets.{Kept, Setting}
 use Rattle.pac_undo.specs.Undo.{Undoable}
 use Rattle.pac_commute.specs.Loads.{Job, begin, next_in_job}
-use Rattle.pac_commute.specs.Machine.{Invariant, among}
+use Rattle.pac_commute.specs.Machine.{Keeps, KeepsOrder, among}
 use Rattle.pac_commute.specs.PartialFits.{TxnsFitPlan}
 use Rattle.pac_commute.proofs.Ends.{machine_ends}
 use Rattle.pac_commute.proofs.MachineFit.{machine_fits}
@@ -29,7 +29,7 @@ use Rattle.pac_core.specs.Calls.{IsReplayDone, IsReplayOutcome}
 use Rattle.pac_core.specs.Links.{AreStages, IsCore, IsOpened, KeepsProgress, KeepsValues, ReadyFrom, batches_of, core_of, job_of, pieces_marked, replay_so_far, set_ids}
 use Rattle.pac_core.specs.Moves.{IsAlike, IsLoadedTo, IsOpeningProgress}
 use Rattle.pac_core.specs.Replay.{Replay, left, loaded_pieces, machine_of, opening_replay, present_of, with_batch_loaded}
-use Rattle.pac_core.proofs.Alike.{invariant_is, present_is}
+use Rattle.pac_core.proofs.Alike.{invariant_is, order_is, present_is}
 use Rattle.pac_core.proofs.LoadedMore as more
 use Rattle.pac_core.proofs.NextReady.{from_same}
 use Rattle.pac_core.proofs.LoadingFacts.{pieces_counted, sets_sorted}
@@ -60,7 +60,8 @@ module _ (job : Job) (p new : Progress) (a : IsAlike p new) (keeps : KeepsProgre
     blocks = ap (λ (s : Setting SetStage). s.blocks) a.sets ∙ keeps.blocks ∙ ap (λ (parts : PlanParts). parts.blocks) (sym a.pieces);
     is_plan = keeps.is_plan;
     fit = keeps.fit;
-    machine = subst (λ (x : Replay). Invariant job (machine_of x)) (sym alike_same) keeps.machine;
+    machine = subst (λ (x : Replay). Keeps job (machine_of x)) (sym alike_same) keeps.machine;
+    order = subst (λ (x : Replay). KeepsOrder job (machine_of x)) (sym alike_same) keeps.order;
     note = a.note_is ∙ keeps.note ∙ ap (λ (x : Replay). (present_of x).note) (sym alike_same);
     next = a.next ∙ keeps.next ∙ ap (next_in_job job) (sym batches_same);
     unfinished = a.unfinished ∙ keeps.unfinished ∙ ap left (sym alike_same);
@@ -161,9 +162,11 @@ module _ (parts : PlanParts) (is_plan : IsPlan parts) (first : ℕ) (tables : Ta
     blocks = ap (λ (s : Setting SetStage). s.blocks) opening.sets ∙ ap (λ (x : PlanParts). x.blocks) (sym opening.pieces);
     is_plan = is_plan;
     fit = fit;
-    machine = subst (λ (x : Replay). Invariant opened_job (machine_of x)) (sym opening_is)
-        (invariant_is (opening_replay opened_job) [] [] (begin opened_job []) (steps.opens opened_job) (λ q mem. refl) (λ q mem. absurd mem) (λ q mem. absurd mem));
-    note = opening.note ∙ ap (λ (s : Present). s.note) (present_is (opening_replay opened_job) [] [] (begin opened_job []) (steps.opens opened_job) (λ q mem. refl) (λ q mem. absurd mem) (λ q mem. absurd mem))
+    machine = subst (λ (x : Replay). Keeps opened_job (machine_of x)) (sym opening_is)
+        (invariant_is (opening_replay opened_job) (among []) (among []) (begin opened_job []) (steps.opens opened_job).0 (λ q mem. refl) (λ q mem. absurd mem) (λ q mem. absurd mem));
+    order = subst (λ (x : Replay). KeepsOrder opened_job (machine_of x)) (sym opening_is)
+        (order_is (opening_replay opened_job) (among []) (among []) (begin opened_job []) (steps.opens opened_job).0 (λ q mem. refl) (λ q mem. absurd mem) (λ q mem. absurd mem) (steps.opens opened_job).1);
+    note = opening.note ∙ ap (λ (s : Present). s.note) (present_is (opening_replay opened_job) (among []) (among []) (begin opened_job []) (steps.opens opened_job).0 (λ q mem. refl) (λ q mem. absurd mem) (λ q mem. absurd mem))
         ∙ ap (λ (x : Replay). (present_of x).note) (sym opening_is);
     next = opening.next ∙ (let e : first ≡ first + 0 = omega arith in e) ∙ ap (next_in_job opened_job) (sym none_loaded);
     unfinished = opening.unfinished ∙ ap left (sym opening_is);
@@ -189,7 +192,7 @@ module _ (parts : PlanParts) (is_plan : IsPlan parts) (first : ℕ) (tables : Ta
     progress = subst (λ (j : Job). KeepsProgress j p) (sym new_job_is) (opening_keeps parts is_plan first tables fit p opening);
     tables = ap (λ (x : Undoable). x.tables) undo ∙ count ∙ ap (λ (x : PlanParts). length x.tables) (sym opening.pieces);
     rows = ap (λ (x : Undoable). x.current) undo
-        ∙ ap (λ (s : Present). s.tables) (present_is (opening_replay new_job) [] [] (begin new_job []) (steps.opens new_job) (λ q mem. refl) (λ q mem. absurd mem) (λ q mem. absurd mem))
+        ∙ ap (λ (s : Present). s.tables) (present_is (opening_replay new_job) (among []) (among []) (begin new_job []) (steps.opens new_job).0 (λ q mem. refl) (λ q mem. absurd mem) (λ q mem. absurd mem))
         ∙ ap (λ (r : Replay). (present_of r).tables) (sym opening_core_is);
     seen = λ q j kept ready there. subst (λ n. n ≤ j) (sym opening.recent) (omega arith);
   }
@@ -252,6 +255,7 @@ closed_core p u core = record {
     is_plan = core.progress.is_plan;
     fit = core.progress.fit;
     machine = core.progress.machine;
+    order = core.progress.order;
     note = core.progress.note;
     next = core.progress.next;
     unfinished = core.progress.unfinished;

@@ -1,7 +1,8 @@
 -- What becomes of a core where a piece at a place is handed out, given back or finished.
 use Rattle.std.specs.Prelude.{slice_get}
-use Rattle.std.proofs.Common.{◌≡◌, ℕ, ◌+◌, ◌-◌, ◌≤◌, true, false, List, length, map, Option, Some, refl, sym, ap, subst, ◌∙◌, arith}
+use Rattle.std.proofs.Common.{◌≡◌, ℕ, ◌+◌, ◌-◌, ◌≤◌, true, false, not, List, length, map, Option, Some, refl, sym, ap, subst, ◌∙◌, arith}
 use Rattle.pac_base.specs.Members.{Mem}
+use Rattle.pac_base.proofs.TestLemmas.{and_both}
 use Rattle.pac_value.specs.Expressions.{Values}
 use Rattle.pac_value.specs.State.{Tables}
 use Rattle.pac_ops.specs.declared.note.Note.{Note}
@@ -22,7 +23,8 @@ use Rattle.pac_sets.specs.declared.set_id.SetId.{SetId}
 use Rattle.pac_sets.specs.Sets.{Kept, Setting, with_kept_at}
 use Rattle.pac_undo.specs.Undo.{Undoable}
 use Rattle.pac_commute.specs.Loads.{Job}
-use Rattle.pac_commute.specs.Machine.{IsReadyAt, Kept as KeptStep, Ran, access_at, all_but, among, world_at}
+use Rattle.pac_commute.specs.Machine.{IsReadyAt, Kept as KeptStep, Ran, access_at, among, drops, world_at}
+use Rattle.pac_commute.proofs.OrderedSteps.{keeps_order}
 use Rattle.pac_commute.proofs.Steps as steps
 use Rattle.pac_core.specs.declared.loaded.LoadedBatch.{LoadedBatch}
 use Rattle.pac_core.specs.declared.place.Place.{Place}
@@ -38,7 +40,7 @@ use Rattle.pac_core.specs.Replay.{loaded_pieces, machine_of, present_of, with_fi
 use Rattle.pac_core.specs.Results.{IsKeptAfter, IsResult}
 use Rattle.pac_core.proofs.BackIn as back
 use Rattle.pac_core.proofs.FinishedOne as finished
-use Rattle.pac_core.proofs.FinishedMark.{IsStepped, out_but}
+use Rattle.pac_core.proofs.FinishedMark.{IsStepped}
 use Rattle.pac_core.proofs.KeptAt.{ids_stay}
 use Rattle.pac_core.proofs.Lists.{at_map}
 use Rattle.pac_core.proofs.PlacedPieces as placed
@@ -159,16 +161,18 @@ module _ (p : Progress) (u : Undoable) (core : IsCore p u) (place : Place) (piec
 -- a piece that is out is finished by a step of the machine
 pub kept_step : (p : Progress) (u : Undoable) (core : IsCore p u) (piece : PieceId) → among (core_of p u).out piece ≡ true → IsStepped (core_of p u) piece
 kept_step p u core piece out = record {
-  out = all_but piece (core_of p u).out;
-  invariant = steps.keeps (job_of p u) core.progress.is_plan (KeptStep (machine_of (core_of p u)) piece (steps.among_mem (core_of p u).out piece out)) core.progress.machine;
-  others = λ q h differ. out_but piece (core_of p u).out q h differ;
+  out = drops (among (core_of p u).out) piece;
+  invariant = steps.keeps (job_of p u) core.progress.is_plan (KeptStep (machine_of (core_of p u)) piece out) core.progress.machine;
+  order = keeps_order (job_of p u) core.progress.is_plan (KeptStep (machine_of (core_of p u)) piece out) core.progress.machine core.progress.order;
+  others = λ q h differ. and_both (among (core_of p u).out q) _ h (ap not differ);
 }
 
 -- and so is a ready one
 pub ran_step : (p : Progress) (u : Undoable) (core : IsCore p u) (piece : PieceId) → IsReadyAt (job_of p u) (machine_of (core_of p u)) piece → IsStepped (core_of p u) piece
 ran_step p u core piece ready = record {
-  out = (core_of p u).out;
-  invariant = steps.keeps (job_of p u) core.progress.is_plan (Ran (machine_of (core_of p u)) piece ready) core.progress.machine;
+  out = among (core_of p u).out;
+  invariant = steps.keeps (job_of p u) core.progress.is_plan (Ran (machine_of (core_of p u)) piece (steps.may_be_taken (job_of p u) core.progress.is_plan (machine_of (core_of p u)) piece ready)) core.progress.machine;
+  order = keeps_order (job_of p u) core.progress.is_plan (Ran (machine_of (core_of p u)) piece ready) core.progress.machine core.progress.order;
   others = λ q h differ. h;
 }
 

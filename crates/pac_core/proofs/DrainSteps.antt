@@ -2,6 +2,7 @@
 use Rattle.std.proofs.Common.{◌≡◌, ℕ, ◌+◌, ◌<◌, Bool, true, false, cond, not, ◌&&◌, ◌||◌, List, [], ◌∷◌, length, Some, refl, sym, ap, ◌∙◌, inl, inr, arith}
 use Rattle.std.specs.Prelude.{filter}
 use Rattle.pac_base.specs.Members.{Mem}
+use Rattle.pac_base.proofs.TestLemmas.{or_right}
 use Rattle.pac_ops.specs.declared.piece.PieceId.{PieceId}
 use Rattle.pac_plan.specs.Pieces.{adds, is_piece}
 use Rattle.pac_plan.specs.Worlds.{blocks_in}
@@ -55,16 +56,22 @@ module _ (r : Replay) (p : PieceId) (next : IsNextPiece r (Some p)) where
   pub left_after : left (with_finished r p) + 1 ≡ left r
   left_after = left_less r p next.0.0 next.0.2
 
-  module _ (none : r.out ≡ []) where
+  module _ (none : r.out ≡ []) (loaded : (q : PieceId) → among r.finished q ≡ true → Mem q (loaded_pieces r)) where
     -- none is out then
     none_ran : filter (λ q. among r.out q && not (is_piece p q)) (loaded_pieces r) ≡ []
     none_ran = filter_none (λ q. among r.out q && not (is_piece p q)) (loaded_pieces r) (λ q mem. ap (λ l. among l q && not (is_piece p q)) none)
 
     pub drained_ran : IsDrained r (with_finished r p)
-    drained_ran = record { job = refl; batches = refl; closed = refl; none = none_ran }
+    drained_ran = record {
+      job = refl;
+      batches = refl;
+      closed = refl;
+      none = none_ran;
+      kept = λ q e. among_filter (adds (among r.finished) p) (loaded_pieces r) q (loaded q e) ∙ or_right (is_piece p q) (among r.finished q) e;
+    }
 
 pub drained_then : (a b c : Replay) → IsDrained a b → IsDrained b c → IsDrained a c
-drained_then a b c one other = record { job = other.job ∙ one.job; batches = other.batches ∙ one.batches; closed = other.closed ∙ one.closed; none = other.none }
+drained_then a b c one other = record { job = other.job ∙ one.job; batches = other.batches ∙ one.batches; closed = other.closed ∙ one.closed; none = other.none; kept = λ q e. other.kept q (one.kept q e) }
 
 pub some_left : (n : ℕ) → (n ≡ 0 → ⊥) → 0 < n
 some_left n some = grind (arith, some)

@@ -4,7 +4,6 @@ use Rattle.std.specs.Prelude.{All}
 use Rattle.std.specs.FinMap.{empty, get}
 use Rattle.std.proofs.lemmas.List.Elements.{Contains-get_or}
 use Rattle.std.proofs.lemmas.Option.{same_Some}
-use Rattle.pac_base.proofs.TestLemmas.{mem_each}
 use Rattle.pac_value.specs.Expressions.{Values}
 use Rattle.pac_value.specs.State.{Cell, Tables}
 use Rattle.pac_ops.specs.declared.note.Note.{Note}
@@ -25,9 +24,8 @@ use Rattle.pac_piece.proofs.TableLemmas.{plan_tables, writes_there}
 use Rattle.pac_sched.specs.declared.state.PieceState.TheVariants as state
 use Rattle.pac_undo.specs.Undo.{Undoable}
 use Rattle.pac_commute.specs.Loads.{Job}
-use Rattle.pac_commute.specs.Machine.{IsOut, Machine, PredsFinished, access_at, among, ends_at, world_at}
+use Rattle.pac_commute.specs.Machine.{Machine, NeedsFinished, access_at, among, ends_at, world_at}
 use Rattle.pac_commute.specs.PlanLaws.{txns_of}
-use Rattle.pac_commute.proofs.Steps.{among_mem}
 use Rattle.pac_core.specs.declared.place.Place.{Place}
 use Rattle.pac_core.specs.declared.progress.Progress.{Progress}
 use Rattle.pac_core.specs.Calls.{IsGivenWork, IsOwn}
@@ -102,14 +100,14 @@ module _ (p : Progress) (u : Undoable) (core : IsCore p u) (place : Place) (piec
     pub finds_now : (env : Values) → FindsInputs p.pieces piece.block txn kept env → FindsInputs p.pieces piece.block txn ((present_of r).envs piece.txn) env
     finds_now env finds = txns.finds_now job p keeps place piece at txn txn_is kept kept_is env finds
 
-    module _ (preds : PredsFinished job m piece) where
+    module _ (needed : NeedsFinished job m piece) where
       -- ---- what it may be run on
 
       pub may_run_on : (env : Values) → FindsInputs p.pieces piece.block txn kept env → (code : Code) → code ≡ code_in p.pieces piece.block txn → (n : ℕ) → u.tables ≡ n → (held : Tables) → held ≡ u.current → IsRunnableOn piece.block code env n held
       may_run_on env finds code code_is n e held held_is =
           subst (λ (c : Code). IsRunnableOn piece.block c env n held) (sym code_is)
           (subst (λ (t : Tables). IsRunnableOn piece.block (code_in p.pieces piece.block txn) env n t) (sym (held_is ∙ core.rows))
-          (runnable_on job keeps.is_plan keeps.fit m keeps.machine piece preds txn there fits env (finds_now env finds) n enough))
+          (runnable_on job keeps.is_plan keeps.fit m keeps.machine piece needed txn there fits env (finds_now env finds) n enough))
         where
           enough : length p.pieces.tables ≤ n
           enough = let t = core.tables in omega (arith, t, e)
@@ -120,7 +118,7 @@ module _ (p : Progress) (u : Undoable) (core : IsCore p u) (place : Place) (piec
         pub result_is : (env : Values) → FindsInputs p.pieces piece.block txn kept env → (base : Tables) → ((a : Cell) → covers (access_at job m piece) a ≡ true → get base a ≡ get (present_of r).tables a)
             → (writes : List Write) (outs : Values) (note : Option Note) → IsValueOver piece.txn (code_in p.pieces piece.block txn) env base writes outs note → IsResult r piece writes outs note
         result_is env finds base alike writes outs note value =
-            value_is_apply job keeps.is_plan m keeps.machine piece preds unfinished txn there fits env (finds_now env finds) base alike writes outs note value
+            value_is_apply job keeps.is_plan m keeps.machine piece needed unfinished txn there fits env (finds_now env finds) base alike writes outs note value
 
         pub writes_within : (env : Values) (base : Tables) (writes : List Write) (outs : Values) (note : Option Note) → IsValueOver piece.txn (code_in p.pieces piece.block txn) env base writes outs note → AreWithin u.tables writes
         writes_within env base writes outs note value = writes_there u.tables (code_ops (code_in p.pieces piece.block txn)) (state_over env base) writes (tables_there u.tables refl) value.cells
@@ -142,13 +140,13 @@ module _ (p : Progress) (u : Undoable) (core : IsCore p u) (place : Place) (piec
       pub work_in : IsWorkIn r work
       work_in = record { txn = txn; there = in_replay.0; cells = cells; named = in_replay.1; over = in_replay.2 }
 
-      module _ (preds : PredsFinished job m piece) where
+      module _ (needed : NeedsFinished job m piece) where
         may_run : IsRunnable work
         may_run =
             subst (λ (b : ℕ). IsRunnableOver b work.code work.env (written empty work.rows)) (ap (λ (q : PieceId). q.block) (sym over.piece_is))
             (subst (λ (c : Code). IsRunnableOver piece.block c work.env (written empty work.rows)) (sym over.code)
             (subst (λ (rows : List Write). IsRunnableOver piece.block (code_in p.pieces piece.block txn) work.env (written empty rows)) (sym (over.rows ∙ ap (λ (t : Tables). copies_at t cells) core.rows))
-            (runnable_copies job keeps.is_plan keeps.fit m keeps.machine piece preds txn there fits work.env (finds_now work.env over.inputs) cells)))
+            (runnable_copies job keeps.is_plan keeps.fit m keeps.machine piece needed txn there fits work.env (finds_now work.env over.inputs) cells)))
 
         pub given_work : IsGivenWork r piece work
         given_work = (over.piece_is, named.keys, work_in, may_run)
@@ -166,10 +164,10 @@ module _ (p : Progress) (u : Undoable) (core : IsCore p u) (place : Place) (piec
               ∙ copied_in (present_of r).tables cells a (contains_mem cells a ((named.each a).1 c))
 
           pub work_result : IsResult r piece writes outs note
-          work_result = result_is preds unfinished work.env over.inputs (written empty work.rows) rows_alike writes outs note value_over
+          work_result = result_is needed unfinished work.env over.inputs (written empty work.rows) rows_alike writes outs note value_over
 
           pub work_within : AreWithin u.tables writes
-          work_within = writes_within preds unfinished work.env (written empty work.rows) writes outs note value_over
+          work_within = writes_within needed unfinished work.env (written empty work.rows) writes outs note value_over
 
 -- ---- work that is handed in
 
@@ -183,8 +181,8 @@ module _ (p : Progress) (u : Undoable) (core : IsCore p u) (place : Place) (work
   pub is_out_now : among own_replay.out work.piece ≡ true
   is_out_now = placed.out_now own_job p core.progress place work.piece state.Out at
 
-  pub out_preds : PredsFinished own_job (machine_of own_replay) work.piece
-  out_preds = (mem_each (IsOut own_job (machine_of own_replay)) own_replay.out core.progress.machine.outs work.piece (among_mem own_replay.out work.piece is_out_now)).preds
+  pub out_needed : NeedsFinished own_job (machine_of own_replay) work.piece
+  out_needed = (core.progress.machine.outs work.piece is_out_now).needed
 
   -- where its cells are known, it is own exactly where it is the work over what is kept
   module _ (cells : List Cell) (named : AreCellsOf (access_at own_job (machine_of own_replay) work.piece) cells) where

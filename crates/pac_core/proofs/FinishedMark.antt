@@ -35,9 +35,9 @@ use Rattle.pac_sets.specs.Sets.{Kept, WaitsForNothing, with_kept_at}
 use Rattle.pac_sets.specs.SetOrder.{set_cmp}
 use Rattle.pac_commute.specs.Loads.{Job, next_in_job}
 use Rattle.pac_commute.specs.PlanLaws.{numbers_of, txns_of}
-use Rattle.pac_commute.specs.Machine.{Invariant, Machine, all_but, among, world_at}
+use Rattle.pac_commute.specs.Machine.{Keeps, KeepsOrder, Machine, among, world_at}
 use Rattle.pac_commute.specs.Works.{given_over}
-use Rattle.pac_commute.proofs.Steps.{piece_self, same_piece}
+use Rattle.pac_commute.proofs.Steps.{piece_self}
 use Rattle.pac_commute.proofs.Theorem.{in_order}
 use Rattle.pac_core.specs.declared.loaded.LoadedBatch.{LoadedBatch}
 use Rattle.pac_core.specs.declared.progress.Progress.{Progress}
@@ -49,7 +49,7 @@ use Rattle.pac_core.specs.Links.{AreStages, IsOpened, piece_in, set_ids, IsStage
 use Rattle.pac_core.specs.Moves.{IsFinishedTo}
 use Rattle.pac_core.specs.Replay.{Replay, left, loaded_pieces, machine_of, present_of, with_finished}
 use Rattle.pac_core.specs.Results.{IsGiven}
-use Rattle.pac_core.proofs.Alike.{invariant_is, present_is}
+use Rattle.pac_core.proofs.Alike.{invariant_is, order_is, present_is}
 use Rattle.pac_core.proofs.KeptAt.{equal_or_not, get_changed, get_other, ids_stay, passes_still, still_up}
 use Rattle.pac_core.proofs.Lists.{at_map, filter_alike, filter_of, set_other, set_same}
 use Rattle.pac_core.proofs.Marks.{among_filter, finished_is, out_is}
@@ -85,22 +85,16 @@ inputs_left parts txn other outs kept new before after is leaves own defined blo
 
 -- ---- states
 
--- what was out and isn't the one is out still
-pub out_but : (p : PieceId) (out : List PieceId) (q : PieceId) → among out q ≡ true → is_piece p q ≡ false → among (all_but p out) q ≡ true
-out_but p [] q e differ = e
-out_but p (o ∷ os) q e differ = go (is_piece p o) refl (or_cases (is_piece o q) (among os q) e) (λ more. out_but p os q more differ)
-  where
-    go : (b : Bool) → is_piece p o ≡ b → (is_piece o q ≡ true) ⊎ (among os q ≡ true) → (among os q ≡ true → among (all_but p os) q ≡ true) → among (cond b (all_but p os) (o ∷ all_but p os)) q ≡ true
-    go true same (inl own) rest = absurd (true≢false (sym (ap (is_piece p) (sym (same_piece o q own)) ∙ same) ∙ differ))
-    go true same (inr more) rest = rest more
-    go false apart (inl own) rest = or_left (is_piece o q) _ own
-    go false apart (inr more) rest = or_right (is_piece o q) _ (rest more)
+-- a machine once a piece is finished, with these out
+abbrev finished_machine : Replay → PieceId → (PieceId → Bool) → Machine
+finished_machine r piece out = record { batches = r.batches; out = out; finished = adds (among r.finished) piece; now = apply (world_at r.job (machine_of r)) piece (present_of r) }
 
--- a step of the machine that finishes a piece: what is out then, with the invariant
+-- a step of the machine that finishes a piece: what is out then, with what is kept
 pub record IsStepped (r : Replay) (piece : PieceId) : Type 0 where
-  pub out : List PieceId
-  pub invariant : Invariant r.job (record { batches = r.batches; out = out; finished = piece ∷ r.finished; now = apply (world_at r.job (machine_of r)) piece (present_of r) })
-  pub others : (q : PieceId) → among r.out q ≡ true → is_piece piece q ≡ false → among out q ≡ true
+  pub out : PieceId → Bool
+  pub invariant : Keeps r.job (finished_machine r piece out)
+  pub order : KeepsOrder r.job (finished_machine r piece out)
+  pub others : (q : PieceId) → among r.out q ≡ true → is_piece piece q ≡ false → out q ≡ true
 
 module _ (job : Job) (p : Progress) (keeps : KeepsProgress job p) (at : ℕ) (id : SetId) (stage : SetStage) (set : SetAt job p keeps at id (Some stage))
     (t : ℕ) (mem : Mem t (txns job p keeps at id (Some stage) set)) (unfinished : is_finished (mark (Some stage) (piece_in id.block t)) ≡ false)
@@ -163,19 +157,22 @@ module _ (job : Job) (p : Progress) (keeps : KeepsProgress job p) (at : ℕ) (id
   abbrev pub r' : Replay
   r' = with_finished r piece
 
-  finished_alike : (q : PieceId) → Mem q (loaded_pieces r) → among r'.finished q ≡ among (piece ∷ r.finished) q
+  finished_alike : (q : PieceId) → Mem q (loaded_pieces r) → among r'.finished q ≡ adds (among r.finished) piece q
   finished_alike q mem = among_filter (adds (among r.finished) piece) (loaded_pieces r) q mem
 
-  out_alike : (q : PieceId) → Mem q r'.out → among stepped.out q ≡ true
+  out_alike : (q : PieceId) → Mem q r'.out → stepped.out q ≡ true
   out_alike q mem =
       let has = (filter_of (λ q. among r.out q && not (is_piece piece q)) (loaded_pieces r) q mem).1 in
       stepped.others q (and_left (among r.out q) _ has) (not_true (is_piece piece q) (and_right (among r.out q) _ has))
 
   pub present_now : apply (world_at job m) piece (present_of r) ≡ present_of r'
-  present_now = present_is r' stepped.out (piece ∷ r.finished) _ stepped.invariant finished_alike (λ q mem. (filter_of _ (loaded_pieces r) q mem).0) out_alike
+  present_now = present_is r' stepped.out (adds (among r.finished) piece) _ stepped.invariant finished_alike (λ q mem. (filter_of _ (loaded_pieces r) q mem).0) out_alike
 
-  invariant_now : Invariant job (machine_of r')
-  invariant_now = invariant_is r' stepped.out (piece ∷ r.finished) _ stepped.invariant finished_alike (λ q mem. (filter_of _ (loaded_pieces r) q mem).0) out_alike
+  invariant_now : Keeps job (machine_of r')
+  invariant_now = invariant_is r' stepped.out (adds (among r.finished) piece) _ stepped.invariant finished_alike (λ q mem. (filter_of _ (loaded_pieces r) q mem).0) out_alike
+
+  order_now : KeepsOrder job (machine_of r')
+  order_now = order_is r' stepped.out (adds (among r.finished) piece) _ stepped.invariant finished_alike (λ q mem. (filter_of _ (loaded_pieces r) q mem).0) out_alike stepped.order
 
   -- ---- what is kept
 
@@ -312,7 +309,8 @@ module _ (job : Job) (p : Progress) (keeps : KeepsProgress job p) (at : ℕ) (id
     blocks = ap (λ s. s.blocks) to.sets ∙ keeps.blocks ∙ ap (λ (x : PlanParts). x.blocks) (sym to.pieces);
     is_plan = keeps.is_plan;
     fit = keeps.fit;
-    machine = subst (λ (x : Replay). Invariant job (machine_of x)) (sym finishes) invariant_now;
+    machine = subst (λ (x : Replay). Keeps job (machine_of x)) (sym finishes) invariant_now;
+    order = subst (λ (x : Replay). KeepsOrder job (machine_of x)) (sym finishes) order_now;
     note = to.note_is ∙ ap (λ (o : Option Note). least o note) keeps.note ∙ sym given.note_is ∙ ap (λ (s : Present). s.note) present_now ∙ ap (λ (x : Replay). (present_of x).note) (sym finishes);
     next = to.next ∙ keeps.next ∙ ap (next_in_job job) (sym to.batches);
     unfinished = (let a = to.unfinished in let b = left_now in let c = keeps.unfinished in let l : left (replay_so_far job new) ≡ left r' = ap left finishes in omega (arith, a, b, c, l));

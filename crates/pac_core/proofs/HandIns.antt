@@ -23,7 +23,7 @@ use Rattle.pac_core.specs.Replay.{machine_of, with_finished}
 use Rattle.pac_core.specs.Results.{IsKeptAfter, IsResult}
 use Rattle.pac_core.specs.Takes.{IsWorkOver}
 use Rattle.pac_core.proofs.CoreMoves.{end_core, end_is, kept_step, ran_step}
-use Rattle.pac_core.proofs.EventFacts.{of_own, out_preds, work_result, work_within}
+use Rattle.pac_core.proofs.EventFacts.{of_own, out_needed, work_result, work_within}
 use Rattle.pac_core.proofs.PlacedPieces as placed
 use Rattle.pac_core.proofs.PlacedTxns as txns
 use Rattle.pac_core.proofs.PlacedTxns.{as_placed}
@@ -64,11 +64,11 @@ module _ (p : Progress) (u : Undoable) (core : IsCore p u) (place : Place) (work
 
   pub handed_within : AreWithin u.tables writes
   handed_within = work_within p u core place work.piece (as_placed at) txn txn_is kept kept_is own.1.cells own.1.named work over
-      (out_preds p u core place work at txn txn_is kept kept_is) (placed.finished_now (job_of p u) p core.progress place work.piece state.Out at) writes outs note value
+      (out_needed p u core place work at txn txn_is kept kept_is) (placed.finished_now (job_of p u) p core.progress place work.piece state.Out at) writes outs note value
 
   handed_result : IsResult (core_of p u) work.piece writes outs note
   handed_result = work_result p u core place work.piece (as_placed at) txn txn_is kept kept_is own.1.cells own.1.named work over
-      (out_preds p u core place work at txn txn_is kept kept_is) (placed.finished_now (job_of p u) p core.progress place work.piece state.Out at) writes outs note value
+      (out_needed p u core place work at txn txn_is kept kept_is) (placed.finished_now (job_of p u) p core.progress place work.piece state.Out at) writes outs note value
 
   module _ (kept_now : Values) (leaves : IsKeptAfter p place work.piece outs kept_now) (new : Progress) (to : IsFinishedAt p place work.piece kept_now note new)
       (order : IsOrderAfter (λ sched. with_state sched work.piece state.Finished) p place.at) (after : Undoable) (undo : after ≡ record u { current = written u.current writes }) where

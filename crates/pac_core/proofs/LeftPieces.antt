@@ -1,19 +1,16 @@
 -- How many pieces are left after a take, and after a result was handed in.
 use Rattle.std.proofs.Common.{◌≡◌, ◌+◌, Result, Ok, Err, ap, arith}
 use Rattle.std.specs.Prelude.{IfOk}
-use Rattle.pac_base.proofs.TestLemmas.{mem_each}
 use Rattle.pac_piece.specs.Results.{WorkDone}
 use Rattle.pac_undo.specs.Undo.{Undoable}
-use Rattle.pac_commute.specs.Machine.{IsOut}
-use Rattle.pac_commute.proofs.Steps.{among_mem}
 use Rattle.pac_core.specs.declared.answers.Finish.{Finish}
 use Rattle.pac_core.specs.declared.answers.Finish.TheVariants as finish
 use Rattle.pac_core.specs.declared.answers.Take.{Take}
 use Rattle.pac_core.specs.declared.answers.Take.TheVariants.{Given, Ran, NotReady, Done}
 use Rattle.pac_core.specs.declared.progress.Progress.{Progress}
 use Rattle.pac_core.specs.Calls.{IsHandedIn, IsTakenPiece, handed_in_by, run_by}
-use Rattle.pac_core.specs.Links.{IsCore, core_of, job_of}
-use Rattle.pac_core.specs.Replay.{Replay, left, machine_of}
+use Rattle.pac_core.specs.Links.{IsCore, core_of}
+use Rattle.pac_core.specs.Replay.{Replay, left}
 use Rattle.pac_core.proofs.DrainSteps.{left_after, left_less}
 
 module _ (old new : Replay) where
@@ -35,7 +32,7 @@ module _ (p : Progress) (u : Undoable) (core : IsCore p u) (done : WorkDone) (ne
   left_handed_in finish.Kept is =
       let r = core_of p u in
       let piece = done.work.piece in
-      let out = mem_each (IsOut (job_of p u) (machine_of r)) r.out core.progress.machine.outs piece (among_mem r.out piece is.0.0) in
+      let out = core.progress.machine.outs piece is.0.0 in
       let same = ap left is.1 in
       let less = left_less r piece out.there out.unfinished in
       omega (arith, same, less)

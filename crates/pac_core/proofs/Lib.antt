@@ -40,6 +40,9 @@ pub mod Moved
 pub mod OpenedSets
 pub mod SameCells
 pub mod EventFacts
+pub mod MachineEvents
+pub mod OwnWork
+pub mod PairsKept
 pub mod BackIn
 pub mod CoreMoves
 pub mod FirstMoves

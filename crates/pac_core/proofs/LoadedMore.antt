@@ -18,7 +18,6 @@ use Rattle.pac_plan.specs.declared.parts.PlanParts.{PlanParts}
 use Rattle.pac_plan.specs.Pieces.{Present, has_ops, part, pieces}
 use Rattle.pac_plan.specs.Worlds.{blocks_in, txn_args, txn_at, txn_block, txn_code}
 use Rattle.pac_batch.specs.declared.piece_set.PieceSet.{PieceSet}
-use Rattle.pac_batch.specs.NextLists.{AreNextPairs}
 use Rattle.pac_batch.specs.Sets.{has_piece, set_of, sets_of}
 use Rattle.pac_sched.specs.declared.state.PieceState.{PieceState}
 use Rattle.pac_sched.specs.declared.state.PieceState.TheVariants as state
@@ -28,12 +27,13 @@ use Rattle.pac_sets.specs.SetOrder.{set_cmp}
 use Rattle.pac_sets.specs.Sets.{Kept, WaitsFor, WaitsForNothing, kept_of}
 use Rattle.pac_sets.proofs.SetLemmas.{kept_there, there_kept}
 use Rattle.pac_commute.specs.Loads.{Job, LoadKeeps, and_batch, begin, loaded, next_in_job, world_of}
-use Rattle.pac_commute.specs.Machine.{Invariant, Loaded as LoadedStep, Machine, access_at, among}
+use Rattle.pac_commute.specs.Machine.{Keeps, KeepsOrder, Loaded as LoadedStep, Machine, access_at, among}
 use Rattle.pac_commute.specs.PartialFits.{TxnsFitPlan}
 use Rattle.pac_commute.specs.PlanLaws.{NumbersRunOn, txns_of}
 use Rattle.pac_commute.proofs.BatchLemmas.{run_on-more, txns-more}
 use Rattle.pac_commute.proofs.Loads.{in-range, loads_keep, old_batch, pieces_more}
 use Rattle.pac_commute.proofs.Replays.{at_number}
+use Rattle.pac_commute.proofs.OrderedSteps.{keeps_order}
 use Rattle.pac_commute.proofs.Steps as steps
 use Rattle.pac_core.specs.declared.loaded.LoadedBatch.{LoadedBatch}
 use Rattle.pac_core.specs.declared.progress.Progress.{Progress}
@@ -41,10 +41,10 @@ use Rattle.pac_core.specs.declared.stage.OpenSet.{OpenSet}
 use Rattle.pac_core.specs.declared.stage.SetStage.{SetStage}
 use Rattle.pac_core.specs.declared.stage.SetStage.TheVariants.{Waiting, Open}
 use Rattle.pac_core.specs.Cells.{HasCellsOf}
-use Rattle.pac_core.specs.Links.{AreStages, IsOpened, IsStageOf, IsUnfinishedBatch, KeepsBatch, KeepsInputs, KeepsProgress, KeepsValues, batches_of, mark, mark_in, pieces_marked, piece_in, replay_so_far, set_ids}
+use Rattle.pac_core.specs.Links.{AreKeptPairs, AreStages, IsOpened, IsStageOf, IsUnfinishedBatch, KeepsBatch, KeepsInputs, KeepsProgress, KeepsValues, batches_of, mark, mark_in, pieces_marked, piece_in, replay_so_far, set_ids}
 use Rattle.pac_core.specs.Moves.{IsLoadedTo, IsWaitingSet}
 use Rattle.pac_core.specs.Replay.{Replay, left, loaded_pieces, machine_of, present_of, with_batch_loaded}
-use Rattle.pac_core.proofs.Alike.{invariant_is, present_is}
+use Rattle.pac_core.proofs.Alike.{invariant_is, order_is, present_is}
 use Rattle.pac_core.proofs.Lists.{at_map, at_mem, filter_alike, filter_of, mem_at}
 use Rattle.pac_core.proofs.Marks.{placed, set_is}
 use Rattle.pac_core.proofs.Ready.{SetAt, at_range, own_piece, set_at, txns, waiting_mark}
@@ -244,17 +244,23 @@ module _ (job : Job) (p : Progress) (keeps : KeepsProgress job p) (batch : Batch
   abbrev pub now : Present
   now = loaded (next_in_job job bs) (begin job bs').envs m.now
 
-  stepped : Invariant job (record { batches = bs'; out = r.out; finished = r.finished; now = now })
+  stepped : Keeps job (record { batches = bs'; out = m.out; finished = m.finished; now = now })
   stepped = steps.keeps job keeps.is_plan (LoadedStep m batch first fits) keeps.machine
+
+  ordered : KeepsOrder job (record { batches = bs'; out = m.out; finished = m.finished; now = now })
+  ordered = keeps_order job keeps.is_plan (LoadedStep m batch first fits) keeps.machine keeps.order
 
   finished_there : (q : PieceId) → Mem q r'.finished → Mem q (loaded_pieces r')
   finished_there q mem = (facts.there q (filter_of (λ q. is_finished (mark_in bs p.sets.sets q)) (loaded_pieces r) q mem).0).1
 
   pub present_now : now ≡ present_of r'
-  present_now = present_is r' r.out r.finished now stepped (λ q mem. refl) finished_there (λ q mem. steps.mem_among r.out q mem)
+  present_now = present_is r' m.out m.finished now stepped (λ q mem. refl) finished_there (λ q mem. steps.mem_among r.out q mem)
 
-  invariant_now : Invariant job (machine_of r')
-  invariant_now = invariant_is r' r.out r.finished now stepped (λ q mem. refl) finished_there (λ q mem. steps.mem_among r.out q mem)
+  invariant_now : Keeps job (machine_of r')
+  invariant_now = invariant_is r' m.out m.finished now stepped (λ q mem. refl) finished_there (λ q mem. steps.mem_among r.out q mem)
+
+  order_now : KeepsOrder job (machine_of r')
+  order_now = order_is r' m.out m.finished now stepped (λ q mem. refl) finished_there (λ q mem. steps.mem_among r.out q mem) ordered
 
   old_values : (t : ℕ) → t < next_in_job job bs → now.envs t ≡ (present_of r).envs t
   old_values t lt = ap (λ b. cond b (m.now.envs t) ((begin job bs').envs t)) (let is : nat_lt t (next_in_job job bs) ≡ true = grind (arith, nat_tests) in is)
@@ -307,7 +313,7 @@ module _ (job : Job) (p : Progress) (keeps : KeepsProgress job p) (batch : Batch
   opened_still : (j : ℕ) (id : SetId) (o : OpenSet) (set : SetAt job p keeps j id (Some (Open o))) → IsOpened r p.sets.sets id (txns job p keeps j id (Some (Open o)) set) o → IsOpened r' sets' id (txns job p keeps j id (Some (Open o)) set) o
   opened_still j id o set is = record {
     pieces = is.pieces;
-    pairs = subst (λ l. AreNextPairs l o.sched.pairs) same is.pairs;
+    pairs = subst (λ l. AreKeptPairs l o.sched.pairs) same is.pairs;
     order = is.order;
     cells = subst (λ l. HasCellsOf l o.cells.items) same is.cells;
     passed = passed_still id (old_batch_there j id (Some (Open o)) set.there) is.passed;
@@ -446,7 +452,8 @@ module _ (job : Job) (p : Progress) (keeps : KeepsProgress job p) (batch : Batch
     blocks = ap (λ s. s.blocks) to.sets ∙ keeps.blocks ∙ ap (λ (x : PlanParts). x.blocks) (sym to.pieces);
     is_plan = keeps.is_plan;
     fit = keeps.fit;
-    machine = subst (λ (x : Replay). Invariant job (machine_of x)) (sym loads) invariant_now;
+    machine = subst (λ (x : Replay). Keeps job (machine_of x)) (sym loads) invariant_now;
+    order = subst (λ (x : Replay). KeepsOrder job (machine_of x)) (sym loads) order_now;
     note = to.note_is ∙ keeps.note ∙ ap (λ (s : Present). s.note) present_now ∙ ap (λ (x : Replay). (present_of x).note) (sym loads);
     next = next_now ∙ ap (next_in_job job) (sym batches_are);
     unfinished = to.unfinished ∙ ap₂ (λ a b. a + b) keeps.unfinished (ap (λ (parts : PlanParts). sum_by (λ (set : PieceSet). length set.txns) (sets_of parts batch.first batch.txns)) (sym keeps.parts) ∙ count) ∙ sym left_now ∙ ap left (sym loads);

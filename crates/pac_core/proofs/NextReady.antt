@@ -289,6 +289,7 @@ seen_keeps job p at keeps = record {
   is_plan = keeps.is_plan;
   fit = keeps.fit;
   machine = keeps.machine;
+  order = keeps.order;
   note = keeps.note;
   next = keeps.next;
   unfinished = keeps.unfinished;

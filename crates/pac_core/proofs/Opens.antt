@@ -18,7 +18,6 @@ use Rattle.pac_plan.specs.Pieces.{HasInputs, InputsAre, access_of, is_piece, ops
 use Rattle.pac_plan.specs.Worlds.{batch_of, txn_at, txn_block, txn_code}
 use Rattle.pac_plan.specs.Codes.{HasTxnInputs, piece_ops}
 use Rattle.pac_plan.proofs.WorldLemmas.{has-edge}
-use Rattle.pac_batch.specs.NextLists.{AreNextPairs}
 use Rattle.pac_batch.specs.Sets.{has_numbers, set_of}
 use Rattle.pac_sched.specs.declared.state.PieceState.{PieceState}
 use Rattle.pac_sched.specs.declared.state.PieceState.TheVariants as state
@@ -28,11 +27,11 @@ use Rattle.pac_sets.specs.declared.set_id.SetId.{SetId}
 use Rattle.pac_sets.specs.Sets.{Kept, WaitsForNothing, kept_of, with_kept_at}
 use Rattle.pac_sets.proofs.SetLemmas.{kept_there}
 use Rattle.pac_commute.specs.Loads.{Job, begin, pieces_of}
-use Rattle.pac_commute.specs.Machine.{Invariant, Machine, among, access_at, ends_at, world_at}
+use Rattle.pac_commute.specs.Machine.{Keeps, KeepsOrder, Machine, access_at, among, ends_at, world_at}
 use Rattle.pac_commute.specs.PlanLaws.{txns_of}
 use Rattle.pac_commute.proofs.FitLemmas.{env_is}
 use Rattle.pac_commute.proofs.PlanFacts.{inputs_plan}
-use Rattle.pac_commute.proofs.Steps.{holds_needs, in_tables}
+use Rattle.pac_commute.proofs.Steps.{in_tables}
 use Rattle.pac_core.specs.declared.loaded.LoadedBatch.{LoadedBatch}
 use Rattle.pac_core.specs.declared.progress.Progress.{Progress}
 use Rattle.pac_core.specs.declared.stage.OpenSet.{OpenSet}
@@ -40,7 +39,7 @@ use Rattle.pac_core.specs.declared.stage.SetStage.{SetStage}
 use Rattle.pac_core.specs.declared.stage.SetStage.TheVariants.{Waiting, Open}
 use Rattle.pac_core.specs.Cells.{HasCellsOf}
 use Rattle.pac_core.specs.Inputs.{FindsInputs}
-use Rattle.pac_core.specs.Links.{AreStages, IsOpened, IsRest, IsStageOf, KeepsBatch, IsUnfinishedBatch, KeepsInputs, KeepsProgress, KeepsValues, batches_of, mark, mark_in, pieces_marked, piece_in, replay_so_far, set_of_piece}
+use Rattle.pac_core.specs.Links.{AreKeptPairs, AreStages, IsOpened, IsRest, IsStageOf, KeepsBatch, IsUnfinishedBatch, KeepsInputs, KeepsProgress, KeepsValues, batches_of, mark, mark_in, pieces_marked, piece_in, replay_so_far, set_of_piece}
 use Rattle.pac_core.specs.Moves.{IsFreshlyOpen, access_over}
 use Rattle.pac_core.specs.Replay.{Replay, left, loaded_pieces, machine_of, present_of}
 use Rattle.pac_core.proofs.AccessInputs.{access_same}
@@ -64,8 +63,8 @@ module _ (job : Job) (p : Progress) (keeps : KeepsProgress job p) where
   pub has_inputs : (id : SetId) → WaitsForNothing job.parts.edges p.sets.sets id → (t i : ℕ) → Stands (batches_of p) t id.batch i → HasInputs (world_at job m) (ends_at job m) (piece_in id.block t) m.now
   has_inputs id passed t i s =
       subst (HasInputs (world_at job m) (ends_at job m) (piece_in id.block t)) (sym keeps.machine.now)
-      (inputs_plan job.parts keeps.is_plan job.first (batches_of p) keeps.machine.run_on (in_tables job keeps.is_plan m keeps.machine) (begin job (batches_of p)) (among r.finished) (piece_in id.block t)
-      (holds_needs job keeps.is_plan m keeps.machine) flows)
+      (inputs_plan job.parts keeps.is_plan job.first (batches_of p) keeps.machine.run_on (in_tables job m keeps.machine) (begin job (batches_of p)) (among r.finished) (piece_in id.block t)
+      keeps.machine.closed flows)
     where
       flows : (o : PieceId) → Mem o (loaded_pieces r) → (o.txn == t && (world_at job m).edge o.block id.block) ≡ true → among r.finished o ≡ true
       flows o mem f =
@@ -250,7 +249,7 @@ module _ (job : Job) (p : Progress) (keeps : KeepsProgress job p) (at : ℕ) (id
   opened_is : IsOpened (replay_so_far job p) new.sets.sets id ts opening
   opened_is = record {
     pieces = fresh.pieces ∙ ap (map (piece_in id.block)) same_txns;
-    pairs = subst (λ l. AreNextPairs l opening.sched.pairs) accesses_are fresh.pairs;
+    pairs = subst (λ l. AreKeptPairs l opening.sched.pairs) accesses_are fresh.pairs;
     order = λ j moved. absurd (true≢false (sym moved ∙ none_moved j));
     cells = subst (λ l. HasCellsOf l opening.cells.items) accesses_are fresh.cells;
     passed = passes_still p.sets.sets keeps.ascend at id (Some (Waiting waiting)) (Some (Open opening)) there job.parts.edges id (λ other same none. let wrong : None ≡ Some (Waiting waiting) = sym none in absurd cc) passed;
@@ -325,7 +324,8 @@ module _ (job : Job) (p : Progress) (keeps : KeepsProgress job p) (at : ℕ) (id
     blocks = keeps.blocks;
     is_plan = keeps.is_plan;
     fit = keeps.fit;
-    machine = subst (λ (x : Replay). Invariant job (machine_of x)) (sym same_replay) keeps.machine;
+    machine = subst (λ (x : Replay). Keeps job (machine_of x)) (sym same_replay) keeps.machine;
+    order = subst (λ (x : Replay). KeepsOrder job (machine_of x)) (sym same_replay) keeps.order;
     note = keeps.note ∙ ap (λ (x : Replay). (present_of x).note) (sym same_replay);
     next = keeps.next;
     unfinished = keeps.unfinished ∙ ap left (sym same_replay);

@@ -41,12 +41,12 @@ use Rattle.pac_piece.proofs.ArgumentWork.{arguments_undefined}
 use Rattle.pac_piece.proofs.WithinLemmas.{keeps, writes_within_access}
 use Rattle.pac_piece.proofs.WriteLookups.{get-none}
 use Rattle.pac_commute.specs.Loads.{Job, begin}
-use Rattle.pac_commute.specs.Machine.{Machine, among, access_at, ends_at, world_at, Invariant, PredsFinished}
+use Rattle.pac_commute.specs.Machine.{Keeps, Machine, NeedsFinished, access_at, ends_at, world_at}
 use Rattle.pac_commute.specs.PlanLaws.{numbers_of, txns_of}
 use Rattle.pac_commute.specs.Works.{IsWork, IsOutcome, IsPut, given_over, put_over, with_value, worked}
 use Rattle.pac_commute.proofs.Laws.{other_env, written_env}
 use Rattle.pac_commute.proofs.PlanFacts.{well_formed_plan}
-use Rattle.pac_commute.proofs.Steps.{outs_have_inputs}
+use Rattle.pac_commute.proofs.Steps.{have_inputs}
 use Rattle.pac_commute.proofs.WorkLemmas.{fresh_law, get-with_value, work_is_apply}
 use Rattle.pac_core.specs.Inputs.{FindsInputs}
 use Rattle.pac_core.specs.Results.{IsGiven}
@@ -168,11 +168,10 @@ written_same (v ∷ vs) a one other e =
 
 -- ---- the value is the piece applied
 
-module _ (job : Job) (is_plan : IsPlan job.parts) (m : Machine) (inv : Invariant job m) (p : PieceId) (preds : PredsFinished job m p) (unfinished : among m.finished p ≡ false)
+module _ (job : Job) (is_plan : IsPlan job.parts) (m : Machine) (inv : Keeps job m) (p : PieceId) (needed : NeedsFinished job m p) (unfinished : m.finished p ≡ false)
     (txn : Txn) (there : txn_at job.first (txns_of m.batches) p.txn ≡ Some txn) (fits : TxnFitsPlan job.parts txn)
     (env : Values) (finds : FindsInputs job.parts p.block txn (m.now.envs p.txn) env)
-    (base : Tables) (alike : (a : Cell) → covers (access_at job m p) a ≡ true → get base a ≡ get m.now.tables a)
-    (writes_made : List Write) (outs : Values) (note : Option Note) (value : IsValueOver p.txn (code_in job.parts p.block txn) env base writes_made outs note) where
+    (base : Tables) (alike : (a : Cell) → covers (access_at job m p) a ≡ true → get base a ≡ get m.now.tables a) where
   abbrev pub w : World
   w = world_at job m
 
@@ -199,17 +198,17 @@ module _ (job : Job) (is_plan : IsPlan job.parts) (m : Machine) (inv : Invariant
       ∙ ap (λ vs. first_note (numbered_notes vs p.txn (piece_ops job.parts p.block txn) work)) (sym vars_are) ∙ ap (λ os. first_note (numbered_notes (w.vars p.txn) p.txn os work)) (sym ops_are)
 
   good : HasInputs w ends p m.now
-  good = outs_have_inputs job is_plan m inv p preds
+  good = have_inputs job is_plan m inv p needed
 
   -- nothing has a value that the piece defines
   none_before : (x : ℕ) → defined_in (ops w p) x ≡ true → get (m.now.envs p.txn) x ≡ None
   none_before x d =
       ap (λ (s : Present). get (s.envs p.txn) x) inv.now
-      ∙ fresh_law w (well_formed_plan job.parts is_plan job.first m.batches) (numbers_of job.first m.batches) (blocks_in job.parts) (begin job m.batches) (among m.finished) p unfinished x d
+      ∙ fresh_law w (well_formed_plan job.parts is_plan job.first m.batches) (numbers_of job.first m.batches) (blocks_in job.parts) (begin job m.batches) m.finished p unfinished x d
       ∙ ap (λ o. get (with_values 0 (txn_args o) empty) x) there
       ∙ no_argument job.parts is_plan txn fits x (part_defined (txn_block job.parts (Some txn)) p.block (txn_code job.parts (Some txn)) x (ap (λ os. defined_in os x) (sym ops_are) ∙ d))
 
-  is_work : IsWork w ends p m.now work
+  pub is_work : IsWork w ends p m.now work
   is_work = record {
     rows = alike;
     inputs = λ x u d. finds x ∙ ap (λ b. cond b (get (m.now.envs p.txn) x) None)
@@ -218,84 +217,85 @@ module _ (job : Job) (is_plan : IsPlan job.parts) (m : Machine) (inv : Invariant
         (ap (λ os. used_in os x && not (defined_in os x)) (sym ops_are) ∙ and_false (used_in (ops w p) x) (not (defined_in (ops w p) x)) (ap not d)) ∙ sym (none_before x d);
   }
 
-  -- at the cells of writes the rows are the same over any tables
-  abbrev rows_made : Cell → Option (Option RowValues)
-  rows_made a = cond (is_written writes_made a) (Some (get (written base writes_made) a)) None
+  module _ (writes_made : List Write) (outs : Values) (note : Option Note) (value : IsValueOver p.txn (code_in job.parts p.block txn) env base writes_made outs note) where
+    -- at the cells of writes the rows are the same over any tables
+    abbrev rows_made : Cell → Option (Option RowValues)
+    rows_made a = cond (is_written writes_made a) (Some (get (written base writes_made) a)) None
 
-  tables_worked : written base writes_made ≡ (worked w p work).tables
-  tables_worked = value.rows ∙ ap (λ (s : State). s.tables) (sym worked_is)
+    tables_worked : written base writes_made ≡ (worked w p work).tables
+    tables_worked = value.rows ∙ ap (λ (s : State). s.tables) (sym worked_is)
 
-  changes : (a : Cell) → is_written writes_made a ≡ true → change_row (code_ops (code_in job.parts p.block txn)) work a ≡ true
-  changes a is = sym (value.cells a) ∙ is
+    changes : (a : Cell) → is_written writes_made a ≡ true → change_row (code_ops (code_in job.parts p.block txn)) work a ≡ true
+    changes a is = sym (value.cells a) ∙ is
 
-  inputs_are : InputsAre (ops w p) (ends p.txn) env
-  inputs_are x u d = is_work.inputs x u d ∙ good x u d
+    inputs_are : InputsAre (ops w p) (ends p.txn) env
+    inputs_are x u d = is_work.inputs x u d ∙ good x u d
 
-  home_is : (a : Cell) → is_written writes_made a ≡ true → (p.block == w.home a.0) ≡ true
-  home_is a is = equal_number _ _ (sym (changed_there (HasHome job.parts p.block) (code_ops (code_in job.parts p.block txn)) work a
-      (code_home job.parts job.first m.batches is_plan p.txn p.block txn there) (changes a is)))
+    home_is : (a : Cell) → is_written writes_made a ≡ true → (p.block == w.home a.0) ≡ true
+    home_is a is = equal_number _ _ (sym (changed_there (HasHome job.parts p.block) (code_ops (code_in job.parts p.block txn)) work a
+        (code_home job.parts job.first m.batches is_plan p.txn p.block txn there) (changes a is)))
 
-  covers_is : (a : Cell) → is_written writes_made a ≡ true → covers_write (access_at job m p) a ≡ true
-  covers_is a is = writes_within_access (ops w p) (ends p.txn) work inputs_are a
-      (ap (λ os. change_row os work a) ops_are ∙ sym (code_changes job.parts p.block txn work a) ∙ changes a is)
+    covers_is : (a : Cell) → is_written writes_made a ≡ true → covers_write (access_at job m p) a ≡ true
+    covers_is a is = writes_within_access (ops w p) (ends p.txn) work inputs_are a
+        (ap (λ os. change_row os work a) ops_are ∙ sym (code_changes job.parts p.block txn work a) ∙ changes a is)
 
-  given_own : (x : ℕ) (v : Value) → get outs x ≡ Some v → defined_in (ops w p) x ≡ true
-  given_own x v e =
-      ap (λ os. defined_in os x) ops_are ∙ given_defined (piece_ops job.parts p.block txn) work x
-      (sym (code_gives job.parts p.block txn work x) ∙ sym (value.vars x) ∙ ap is_some e)
+    given_own : (x : ℕ) (v : Value) → get outs x ≡ Some v → defined_in (ops w p) x ≡ true
+    given_own x v e =
+        ap (λ os. defined_in os x) ops_are ∙ given_defined (piece_ops job.parts p.block txn) work x
+        (sym (code_gives job.parts p.block txn work x) ∙ sym (value.vars x) ∙ ap is_some e)
 
-  stays : (x : ℕ) → get outs x ≡ None → get (worked w p work).env x ≡ get env x
-  stays x none = ap (λ (s : State). get s.env x) worked_is ∙ ungiven_stays (code_ops (code_in job.parts p.block txn)) work x (sym (value.vars x) ∙ ap is_some none)
+    stays : (x : ℕ) → get outs x ≡ None → get (worked w p work).env x ≡ get env x
+    stays x none = ap (λ (s : State). get s.env x) worked_is ∙ ungiven_stays (code_ops (code_in job.parts p.block txn)) work x (sym (value.vars x) ∙ ap is_some none)
 
-  outcome : IsOutcome w ends p work rows_made (λ x. get outs x)
-  outcome = record {
-    written = λ q row e. made q (is_written writes_made q) refl row e;
-    unwritten = λ q e. unmade q (is_written writes_made q) refl e;
-    given = λ x v e. (given_own x v e, ap (λ (s : State). get s.env x) worked_is ∙ value.values x v e);
-    ungiven = stays;
-  }
-    where
-      made : (q : Cell) (b : Bool) → is_written writes_made q ≡ b → (row : Option RowValues) → cond b (Some (get (written base writes_made) q)) None ≡ Some row
-          → (writes w ends p (RowOf q) ≡ true) × (get (worked w p work).tables q ≡ row)
-      made q true is row e = (and_both _ _ (home_is q is) (covers_is q is), ap (λ t. get t q) (sym tables_worked) ∙ same_Some _ row e)
-      made q false is row e = let wrong : ◌≡◌ {A = Option (Option RowValues)} None (Some row) = e in absurd cc
+    outcome : IsOutcome w ends p work rows_made (λ x. get outs x)
+    outcome = record {
+      written = λ q row e. made q (is_written writes_made q) refl row e;
+      unwritten = λ q e. unmade q (is_written writes_made q) refl e;
+      given = λ x v e. (given_own x v e, ap (λ (s : State). get s.env x) worked_is ∙ value.values x v e);
+      ungiven = stays;
+    }
+      where
+        made : (q : Cell) (b : Bool) → is_written writes_made q ≡ b → (row : Option RowValues) → cond b (Some (get (written base writes_made) q)) None ≡ Some row
+            → (writes w ends p (RowOf q) ≡ true) × (get (worked w p work).tables q ≡ row)
+        made q true is row e = (and_both _ _ (home_is q is) (covers_is q is), ap (λ t. get t q) (sym tables_worked) ∙ same_Some _ row e)
+        made q false is row e = let wrong : ◌≡◌ {A = Option (Option RowValues)} None (Some row) = e in absurd cc
 
-      unmade : (q : Cell) (b : Bool) → is_written writes_made q ≡ b → cond b (Some (get (written base writes_made) q)) None ≡ None → get (worked w p work).tables q ≡ get base q
-      unmade q true is e = let wrong : ◌≡◌ {A = Option (Option RowValues)} (Some (get (written base writes_made) q)) None = e in absurd cc
-      unmade q false is e = ap (λ t. get t q) (sym tables_worked) ∙ get-none base q writes_made is
+        unmade : (q : Cell) (b : Bool) → is_written writes_made q ≡ b → cond b (Some (get (written base writes_made) q)) None ≡ None → get (worked w p work).tables q ≡ get base q
+        unmade q true is e = let wrong : ◌≡◌ {A = Option (Option RowValues)} (Some (get (written base writes_made) q)) None = e in absurd cc
+        unmade q false is e = ap (λ t. get t q) (sym tables_worked) ∙ get-none base q writes_made is
 
-  -- the present with what the code made
-  abbrev made_present : Present
-  made_present = record {
-    tables = written m.now.tables writes_made;
-    envs = with_env p.txn (over_values (defined_vars (ops w p)) outs (m.now.envs p.txn)) m.now.envs;
-    note = least m.now.note note;
-  }
+    -- the present with what the code made
+    abbrev made_present : Present
+    made_present = record {
+      tables = written m.now.tables writes_made;
+      envs = with_env p.txn (over_values (defined_vars (ops w p)) outs (m.now.envs p.txn)) m.now.envs;
+      note = least m.now.note note;
+    }
 
-  own_made : (x : ℕ) → get (made_present.envs p.txn) x ≡ given_over (get outs x) (get (m.now.envs p.txn) x)
-  own_made x = ap (λ (e : Values). get e x) (written_env p.txn p.txn _ m.now.envs (eq_self p.txn)) ∙ over_at (defined_vars (ops w p)) outs (m.now.envs p.txn) x (go (get outs x) refl)
-    where
-      go : (o : Option Value) → get outs x ≡ o → Mem x (defined_vars (ops w p)) ⊎ (get outs x ≡ None)
-      go None e = inr e
-      go (Some v) e = inl (defined_among (ops w p) x (given_own x v e))
+    own_made : (x : ℕ) → get (made_present.envs p.txn) x ≡ given_over (get outs x) (get (m.now.envs p.txn) x)
+    own_made x = ap (λ (e : Values). get e x) (written_env p.txn p.txn _ m.now.envs (eq_self p.txn)) ∙ over_at (defined_vars (ops w p)) outs (m.now.envs p.txn) x (go (get outs x) refl)
+      where
+        go : (o : Option Value) → get outs x ≡ o → Mem x (defined_vars (ops w p)) ⊎ (get outs x ≡ None)
+        go None e = inr e
+        go (Some v) e = inl (defined_among (ops w p) x (given_own x v e))
 
-  others_made : (u x : ℕ) → (u ≡ p.txn → ⊥) → get (made_present.envs u) x ≡ get (m.now.envs u) x
-  others_made u x differ = ap (λ (e : Values). get e x) (other_env p.txn u _ m.now.envs (unlike (u == p.txn) (λ h. differ (same_number u p.txn h))))
+    others_made : (u x : ℕ) → (u ≡ p.txn → ⊥) → get (made_present.envs u) x ≡ get (m.now.envs u) x
+    others_made u x differ = ap (λ (e : Values). get e x) (other_env p.txn u _ m.now.envs (unlike (u == p.txn) (λ h. differ (same_number u p.txn h))))
 
-  put : IsPut w p work rows_made (λ x. get outs x) m.now made_present
-  put = record {
-    tables = λ q. at q (is_written writes_made q) refl;
-    own = own_made;
-    others = others_made;
-    note = ap (least m.now.note) (value.note_is ∙ notes_are);
-  }
-    where
-      at : (q : Cell) (b : Bool) → is_written writes_made q ≡ b → get (written m.now.tables writes_made) q ≡ put_over (cond b (Some (get (written base writes_made) q)) None) (get m.now.tables q)
-      at q true is = written_same writes_made q m.now.tables base is
-      at q false is = get-none m.now.tables q writes_made is
+    put : IsPut w p work rows_made (λ x. get outs x) m.now made_present
+    put = record {
+      tables = λ q. at q (is_written writes_made q) refl;
+      own = own_made;
+      others = others_made;
+      note = ap (least m.now.note) (value.note_is ∙ notes_are);
+    }
+      where
+        at : (q : Cell) (b : Bool) → is_written writes_made q ≡ b → get (written m.now.tables writes_made) q ≡ put_over (cond b (Some (get (written base writes_made) q)) None) (get m.now.tables q)
+        at q true is = written_same writes_made q m.now.tables base is
+        at q false is = get-none m.now.tables q writes_made is
 
-  made_is_apply : made_present ≡ apply w p m.now
-  made_is_apply = work_is_apply w (well_formed_plan job.parts is_plan job.first m.batches) ends p m.now made_present work rows_made (λ x. get outs x) good is_work outcome put
+    made_is_apply : made_present ≡ apply w p m.now
+    made_is_apply = work_is_apply w (well_formed_plan job.parts is_plan job.first m.batches) ends p m.now made_present work rows_made (λ x. get outs x) good is_work outcome put
 
-  pub value_is_apply : IsGiven p (ops w p) writes_made outs note m.now (apply w p m.now)
-  value_is_apply = subst (λ (s : Present). IsGiven p (ops w p) writes_made outs note m.now s) made_is_apply (record { tables = refl; own = own_made; others = others_made; note_is = refl; defined = given_own })
+    pub value_is_apply : IsGiven p (ops w p) writes_made outs note m.now (apply w p m.now)
+    value_is_apply = subst (λ (s : Present). IsGiven p (ops w p) writes_made outs note m.now s) made_is_apply (record { tables = refl; own = own_made; others = others_made; note_is = refl; defined = given_own })

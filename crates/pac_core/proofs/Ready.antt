@@ -361,7 +361,7 @@ module _ (job : Job) (p : Progress) (keeps : KeepsProgress job p) where
                     let less : j.0 < i = order_of ts (rises at id (Some (Open opening)) set) j.0 i o.txn t j.1 e lt in
                     let conflict : conflicts (access_in accesses j.0) (access_in accesses i) ≡ true =
                     ap (λ x. conflicts x (access_in accesses i)) (access_is j.0 o.txn j.1 ∙ ap (access_at job m) own) ∙ ap (conflicts (access_at job m o)) (access_is i t e) ∙ c in
-                    let all = (pairs_suffice accesses opening.sched.pairs opened.pairs).1 F closed j.0 i less (let within = slice_get_within ts i t e in let len = accesses_len in omega (arith, within, len)) conflict
+                    let all = (pairs_suffice accesses opening.sched.pairs opened.pairs.0).1 F closed j.0 i less (let within = slice_get_within ts i t e in let len = accesses_len in omega (arith, within, len)) conflict
                     (or_right (is_finished_at opening.sched i) (i == i) (eq_self i)) in
                     ⊎_elim
                     (λ f. ap (among r.finished) (sym own) ∙ sym (finished_at j.0 o.txn j.1) ∙ f)
@@ -401,7 +401,7 @@ module _ (job : Job) (p : Progress) (keeps : KeepsProgress job p) where
             a = pair.0
 
             next : (pair.0 < pair.1) × (pair.1 < length accesses) × (conflicts (access_in accesses pair.0) (access_in accesses pair.1) ≡ true)
-            next = (pairs_suffice accesses opening.sched.pairs opened.pairs).0 pair.0 pair.1 (Contains-get_or opening.sched.pairs k d lt)
+            next = (pairs_suffice accesses opening.sched.pairs opened.pairs.0).0 pair.0 pair.1 (Contains-get_or opening.sched.pairs k d lt)
 
             less : a < i
             less = let n = next.0 in omega (arith, n, same)

@@ -20,7 +20,7 @@ use Rattle.pac_sets.specs.SetOrder.{set_cmp}
 use Rattle.pac_sets.specs.Sets.{Kept, WaitsForNothing, kept_of}
 use Rattle.pac_sets.proofs.SetLemmas.{kept_there, there_kept}
 use Rattle.pac_commute.specs.Loads.{Job, pieces_of}
-use Rattle.pac_commute.specs.Machine.{Invariant}
+use Rattle.pac_commute.specs.Machine.{Keeps, KeepsOrder, among}
 use Rattle.pac_core.specs.declared.progress.Progress.{Progress}
 use Rattle.pac_core.specs.declared.stage.OpenSet.{OpenSet}
 use Rattle.pac_core.specs.declared.stage.SetStage.{SetStage}
@@ -28,7 +28,7 @@ use Rattle.pac_core.specs.declared.stage.SetStage.TheVariants.{Waiting, Open}
 use Rattle.pac_core.specs.Links.{AreStages, IsStageOf, IsUnfinishedBatch, KeepsBatch, KeepsProgress, KeepsValues, batches_of, mark, mark_in, pieces_marked, replay_so_far, set_of_piece}
 use Rattle.pac_core.specs.Moves.{reclaimed_kept, reclaimed_sets, reclaimed_stage}
 use Rattle.pac_core.specs.Replay.{Replay, left, loaded_pieces, machine_of, present_of, with_none_out}
-use Rattle.pac_core.proofs.Alike.{invariant_is, present_is}
+use Rattle.pac_core.proofs.Alike.{invariant_is, order_is, present_is}
 use Rattle.pac_core.proofs.Lists.{filter_alike, filter_of, map_at}
 
 -- ---- lists of sets
@@ -132,11 +132,14 @@ module _ (job : Job) (p : Progress) (keeps : KeepsProgress job p) (orders : (j :
   finished_loaded : (q : PieceId) → Mem q r.finished → Mem q (loaded_pieces r)
   finished_loaded q mem = (filter_of (λ q. is_finished (mark_in (batches_of p) p.sets.sets q)) (loaded_pieces r) q mem).0
 
-  invariant_now : Invariant job (machine_of (with_none_out r))
-  invariant_now = invariant_is (with_none_out r) r.out r.finished (present_of r) keeps.machine (λ q mem. refl) finished_loaded (λ q mem. absurd mem)
+  invariant_now : Keeps job (machine_of (with_none_out r))
+  invariant_now = invariant_is (with_none_out r) (among r.out) (among r.finished) (present_of r) keeps.machine (λ q mem. refl) finished_loaded (λ q mem. absurd mem)
+
+  order_now : KeepsOrder job (machine_of (with_none_out r))
+  order_now = order_is (with_none_out r) (among r.out) (among r.finished) (present_of r) keeps.machine (λ q mem. refl) finished_loaded (λ q mem. absurd mem) keeps.order
 
   pub reclaimed_present : present_of r ≡ present_of (with_none_out r)
-  reclaimed_present = present_is (with_none_out r) r.out r.finished (present_of r) keeps.machine (λ q mem. refl) finished_loaded (λ q mem. absurd mem)
+  reclaimed_present = present_is (with_none_out r) (among r.out) (among r.finished) (present_of r) keeps.machine (λ q mem. refl) finished_loaded (λ q mem. absurd mem)
 
   passed_still : (s : SetId) → WaitsForNothing job.parts.edges p.sets.sets s → WaitsForNothing job.parts.edges (reclaimed_sets p.sets.sets) s
   passed_still s passed other wait = kept_back other ∙ ap reclaimed_kept (passed other wait)
@@ -194,7 +197,8 @@ module _ (job : Job) (p : Progress) (keeps : KeepsProgress job p) (orders : (j :
     blocks = keeps.blocks;
     is_plan = keeps.is_plan;
     fit = keeps.fit;
-    machine = subst (λ (x : Replay). Invariant job (machine_of x)) (sym reclaimed_now) invariant_now;
+    machine = subst (λ (x : Replay). Keeps job (machine_of x)) (sym reclaimed_now) invariant_now;
+    order = subst (λ (x : Replay). KeepsOrder job (machine_of x)) (sym reclaimed_now) order_now;
     note = keeps.note ∙ ap (λ (s : Present). s.note) reclaimed_present ∙ ap (λ (x : Replay). (present_of x).note) (sym reclaimed_now);
     next = keeps.next;
     unfinished = keeps.unfinished ∙ ap left (sym reclaimed_now);

@@ -1,4 +1,4 @@
--- The work of a piece whose predecessors are finished can be done.
+-- The work of a piece can be done once what it needs is finished.
 use Rattle.std.proofs.Common.{◌≡◌, ◌≤◌, ℕ, Bool, true, false, cond, not, List, length, Option, None, Some, refl, sym, ap, subst, ◌∙◌, ⊎_elim}
 use Rattle.std.specs.FinMap.{empty, get}
 use Rattle.pac_base.proofs.TestLemmas.{and_both, and_left, and_right, not_true}
@@ -17,19 +17,19 @@ use Rattle.pac_tables.specs.Written.{written}
 use Rattle.pac_piece.specs.Frames.{AreAmong}
 use Rattle.pac_piece.specs.Runnable.{IsRunnableOn, IsRunnableOver}
 use Rattle.pac_commute.specs.Loads.{Job}
-use Rattle.pac_commute.specs.Machine.{Invariant, Machine, PredsFinished, ends_at, world_at}
+use Rattle.pac_commute.specs.Machine.{Keeps, Machine, NeedsFinished, ends_at, world_at}
 use Rattle.pac_commute.specs.PlanLaws.{txns_of}
 use Rattle.pac_commute.proofs.FitLemmas.{env_is}
 use Rattle.pac_commute.proofs.MachineFit.{machine_fits}
-use Rattle.pac_commute.proofs.Steps.{outs_have_inputs}
+use Rattle.pac_commute.proofs.Steps.{have_inputs}
 use Rattle.pac_core.specs.Cells.{copies_at}
 use Rattle.pac_core.specs.Inputs.{FindsInputs, is_found}
 use Rattle.pac_core.proofs.Copies.{copied_or}
 
-module _ (job : Job) (is : IsPlan job.parts) (rows_fit : RowsFit job.parts.tables job.tables) (m : Machine) (inv : Invariant job m) (p : PieceId) (preds : PredsFinished job m p)
+module _ (job : Job) (is : IsPlan job.parts) (rows_fit : RowsFit job.parts.tables job.tables) (m : Machine) (inv : Keeps job m) (p : PieceId) (needed : NeedsFinished job m p)
     (txn : Txn) (there : txn_at job.first (txns_of m.batches) p.txn ≡ Some txn) (fits : TxnFitsPlan job.parts txn) (env : Values) (finds : FindsInputs job.parts p.block txn (m.now.envs p.txn) env) where
   good : HasInputs (world_at job m) (ends_at job m) p m.now
-  good = outs_have_inputs job is m inv p preds
+  good = have_inputs job is m inv p needed
 
   operations : ops (world_at job m) p ≡ piece_ops job.parts p.block txn
   operations = ap (λ o. part (txn_block job.parts o) p.block (txn_code job.parts o)) there

@@ -1,5 +1,5 @@
 -- What the calls of a core answer, and what each makes of the replay.
-use Rattle.std.specs.Prelude.{◌≡◌, ◌≢◌, ◌<◌, ◌+◌, ◌^◌, ⊤, ℕ, true, false, List, [], ◌∷◌, length, Option, Some, None}
+use Rattle.std.specs.Prelude.{◌≡◌, ◌≢◌, ◌<◌, ◌+◌, ◌^◌, ⊤, ℕ, true, false, List, [], ◌∷◌, length, sum_by, Option, Some, None}
 use Rattle.pac_value.specs.State.{Tables}
 use Rattle.pac_ops.specs.declared.batch.Batch.{Batch}
 use Rattle.pac_ops.specs.declared.note.Note.{Note}
@@ -8,6 +8,7 @@ use Rattle.pac_ops.specs.Notes.{first_note}
 use Rattle.pac_ops.specs.Transactions.{replayed}
 use Rattle.pac_plan.specs.declared.access.Access.TheVariants.{Whole}
 use Rattle.pac_plan.specs.declared.parts.PlanParts.{PlanParts}
+use Rattle.pac_batch.specs.NextLists.{touches_in}
 use Rattle.pac_piece.specs.declared.work.Work.{Work}
 use Rattle.pac_piece.specs.Results.{WorkDone}
 use Rattle.pac_piece.specs.Runnable.{IsRunnable}
@@ -20,7 +21,7 @@ use Rattle.pac_core.specs.declared.answers.Take.{Take}
 use Rattle.pac_core.specs.declared.answers.Take.TheVariants.{Given, Ran, NotReady, Done}
 use Rattle.pac_core.specs.declared.answers.Finish.{Finish}
 use Rattle.pac_core.specs.declared.answers.Finish.TheVariants as finish
-use Rattle.pac_core.specs.Replay.{Replay, left, with_batch_loaded, with_finished, with_out, without_out}
+use Rattle.pac_core.specs.Replay.{Replay, left, loaded_pieces, with_batch_loaded, with_finished, with_out, without_out}
 use Rattle.pac_core.specs.Takes.{IsNextPiece, IsWorkIn, access_now}
 
 -- a batch may be loaded: more may come, its numbers run on, and its transactions fit the plan
@@ -85,12 +86,17 @@ IsGivenBack old work new = (IsOwn old work → new ≡ without_out old work.piec
 abbrev pub HasReadyPiece : Replay → Type 0
 HasReadyPiece r = r.out ≡ [] → 0 < left r → IsNextPiece r None → ⊥
 
--- the same is loaded, and no piece is out
+-- the same is loaded, no piece is out, and what was finished is finished still
 pub record IsDrained (old new : Replay) : Type 0 where
   pub job : new.job ≡ old.job
   pub batches : new.batches ≡ old.batches
   pub closed : new.is_closed ≡ old.is_closed
   pub none : new.out ≡ []
+  pub kept : (p : PieceId) → among old.finished p ≡ true → among new.finished p ≡ true
+
+-- how many rows the accesses of the loaded pieces name
+abbrev pub touches_loaded : Replay → ℕ
+touches_loaded r = sum_by (λ p. touches_in (access_now r p)) (loaded_pieces r)
 
 -- the tables and the note of a replay that is done are those of executing its transactions one after another
 pub record IsReplayOutcome (r : Replay) (tables : Tables) (note : Option Note) : Type 0 where

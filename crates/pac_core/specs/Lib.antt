@@ -7,4 +7,5 @@ pub mod Links
 pub mod Places
 pub mod Moves
 pub mod Calls
+pub mod Events
 pub mod Results

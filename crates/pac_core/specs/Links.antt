@@ -1,6 +1,6 @@
 -- How what a core keeps stands for a replay: sets and their stages for the pieces that are out and finished, values that are kept
 -- for the variables of the present, and the note for its note.
-use Rattle.std.specs.Prelude.{◌≡◌, ◌<◌, ◌≤◌, ◌-◌, ◌+◌, ◌==◌, if◌then◌else◌, ℕ, Bool, true, false, List, [], ◌∷◌, ◌++◌, map, filter, length, slice_get, Option, Some, None, T, unwrap_or}
+use Rattle.std.specs.Prelude.{◌≡◌, ◌<◌, ◌≤◌, ◌-◌, ◌+◌, ◌*◌, ◌==◌, if◌then◌else◌, ℕ, Bool, true, false, List, [], ◌∷◌, ◌++◌, map, filter, length, slice_get, Option, Some, None, T, unwrap_or}
 use Rattle.std.specs.FinMap.{get, is_sorted}
 use Rattle.std.specs.List.{list_any}
 use Rattle.pac_value.specs.Expressions.{Values}
@@ -8,12 +8,13 @@ use Rattle.pac_ops.specs.declared.batch.Batch.{Batch}
 use Rattle.pac_ops.specs.declared.piece.PieceId.{PieceId}
 use Rattle.pac_ops.specs.declared.transaction.Txn.{Txn}
 use Rattle.pac_ops.specs.Shapes.{RowsFit}
+use Rattle.pac_plan.specs.declared.access.Access.{Access}
 use Rattle.pac_plan.specs.declared.parts.PlanParts.{PlanParts}
 use Rattle.pac_plan.specs.Analysis.{IsPlan}
 use Rattle.pac_plan.specs.Pieces.{Present}
 use Rattle.pac_plan.specs.Worlds.{batch_of}
 use Rattle.pac_batch.specs.declared.piece_set.PieceSet.{PieceSet}
-use Rattle.pac_batch.specs.NextLists.{AreNextPairs}
+use Rattle.pac_batch.specs.NextLists.{AreNextPairs, count_touches}
 use Rattle.pac_batch.specs.Sets.{has_numbers, set_of, sets_of}
 use Rattle.pac_sched.specs.declared.state.PieceState.{PieceState}
 use Rattle.pac_sched.specs.declared.state.PieceState.TheVariants as state
@@ -23,7 +24,7 @@ use Rattle.pac_sets.specs.SetOrder.{set_cmp}
 use Rattle.pac_sets.specs.Sets.{Kept, WaitsForNothing, kept_of}
 use Rattle.pac_undo.specs.Undo.{Undoable}
 use Rattle.pac_commute.specs.Loads.{Job, pieces_of, next_in_job}
-use Rattle.pac_commute.specs.Machine.{Invariant, IsReadyAt, access_at}
+use Rattle.pac_commute.specs.Machine.{IsReadyAt, Keeps, KeepsOrder, access_at}
 use Rattle.pac_core.specs.declared.loaded.LoadedBatch.{LoadedBatch}
 use Rattle.pac_core.specs.declared.stage.OpenSet.{OpenSet}
 use Rattle.pac_core.specs.declared.stage.SetStage.{SetStage}
@@ -73,11 +74,15 @@ replay_so_far job p = record {
 abbrev pub piece_in : ℕ → ℕ → PieceId
 piece_in block txn = record { txn = txn; block = block }
 
+-- these are the next pairs of accesses, and few
+abbrev pub AreKeptPairs : List Access → List (ℕ × ℕ) → Type 0
+AreKeptPairs accesses pairs = AreNextPairs accesses pairs × (length pairs ≤ 2 * count_touches accesses + 2 * length accesses)
+
 -- these pieces of a set were opened: they are scheduled by the next pairs of their accesses, the cells of each are known, and the sets
 -- that this one waits for are finished
 pub record IsOpened (r : Replay) (sets : List (Kept SetStage)) (set : SetId) (txns : List ℕ) (opening : OpenSet) : Type 0 where
   pub pieces : opening.sched.pieces ≡ map (piece_in set.block) txns
-  pub pairs : AreNextPairs (map (access_at r.job (machine_of r)) opening.sched.pieces) opening.sched.pairs
+  pub pairs : AreKeptPairs (map (access_at r.job (machine_of r)) opening.sched.pieces) opening.sched.pairs
   pub order : IsInOrder opening.sched
   pub cells : HasCellsOf (map (access_at r.job (machine_of r)) opening.sched.pieces) opening.cells.items
   pub passed : WaitsForNothing r.job.parts.edges sets set
@@ -135,7 +140,8 @@ pub record KeepsProgress (job : Job) (p : Progress) : Type 0 where
   pub blocks : p.sets.blocks ≡ p.pieces.blocks
   pub is_plan : IsPlan job.parts
   pub fit : RowsFit job.parts.tables job.tables
-  pub machine : Invariant job (machine_of (replay_so_far job p))
+  pub machine : Keeps job (machine_of (replay_so_far job p))
+  pub order : KeepsOrder job (machine_of (replay_so_far job p))
   pub note : p.note ≡ (present_of (replay_so_far job p)).note
   pub next : p.next ≡ next_in_job job (batches_of p)
   pub unfinished : p.unfinished ≡ left (replay_so_far job p)

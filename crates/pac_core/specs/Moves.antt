@@ -15,7 +15,6 @@ use Rattle.pac_plan.specs.Pieces.{access_of, part}
 use Rattle.pac_plan.specs.Worlds.{txn_args, txn_block, txn_code}
 use Rattle.pac_plan.specs.Codes.{HasTxnInputs, TxnFitsPlan}
 use Rattle.pac_batch.specs.declared.piece_set.PieceSet.{PieceSet}
-use Rattle.pac_batch.specs.NextLists.{AreNextPairs}
 use Rattle.pac_batch.specs.Sets.{has_numbers, sets_of}
 use Rattle.pac_sched.specs.declared.state.PieceState.TheVariants as state
 use Rattle.pac_sched.specs.declared.state.Pick.TheVariants.{Piece}
@@ -36,7 +35,7 @@ use Rattle.pac_core.specs.declared.stage.SetStage.TheVariants.{Waiting, Open}
 use Rattle.pac_core.specs.Cells.{HasCellsOf}
 use Rattle.pac_core.specs.Inputs.{FindsInputs}
 use Rattle.pac_core.specs.Places.{IsPieceAt, IsTxnIn}
-use Rattle.pac_core.specs.Links.{IsUnfinishedBatch, batches_of, piece_in, replay_so_far}
+use Rattle.pac_core.specs.Links.{AreKeptPairs, IsUnfinishedBatch, batches_of, piece_in, replay_so_far}
 use Rattle.pac_core.specs.Takes.{IsNextPiece}
 
 -- nothing is loaded, by this plan, and transactions begin with this number
@@ -69,8 +68,22 @@ pub record HasAllInputs (parts : PlanParts) (loaded : LoadedBatch) (block : ℕ)
 pub record IsFreshlyOpen (parts : PlanParts) (loaded : LoadedBatch) (block : ℕ) (txns : List ℕ) (opening : OpenSet) : Type 0 where
   pub pieces : opening.sched.pieces ≡ map (piece_in block) txns
   pub states : opening.sched.states ≡ replicate (length txns) state.Waiting
-  pub pairs : AreNextPairs (map (access_over parts loaded block) txns) opening.sched.pairs
+  pub pairs : AreKeptPairs (map (access_over parts loaded block) txns) opening.sched.pairs
   pub cells : HasCellsOf (map (access_over parts loaded block) txns) opening.cells.items
+
+-- how many pairs are kept of a set
+abbrev pub pairs_of : Option SetStage → ℕ
+pairs_of None = 0
+pairs_of (Some (Waiting txns)) = 0
+pairs_of (Some (Open opening)) = length opening.sched.pairs
+
+-- so many are kept of the set at an offset
+abbrev pub HasPairsAt : Progress → ℕ → ℕ → Type 0
+HasPairsAt p at n = (set : SetId) (kept : Option SetStage) → slice_get p.sets.sets at ≡ Some (set, kept) → n ≡ pairs_of kept
+
+-- and of all of some
+abbrev pub pairs_kept : List (Kept SetStage) → ℕ
+pairs_kept sets = sum_by (λ (set : Kept SetStage). pairs_of set.1) sets
 
 -- the set at an offset is open, with this
 pub record StandsOpen (p : Progress) (at : ℕ) : Type 0 where

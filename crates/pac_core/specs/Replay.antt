@@ -43,7 +43,7 @@ present_of r = partial (world_of r.job r.batches) (among r.finished) (loaded_pie
 
 -- the machine of which this is a state
 abbrev pub machine_of : Replay → Machine
-machine_of r = record { batches = r.batches; out = r.out; finished = r.finished; now = present_of r }
+machine_of r = record { batches = r.batches; out = among r.out; finished = among r.finished; now = present_of r }
 
 -- how many of its pieces are not finished
 abbrev pub left : Replay → ℕ

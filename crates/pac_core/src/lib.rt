@@ -6,13 +6,13 @@
 //!   a batch may be loaded.
 //! - [`Core::take`] hands out the work of the ready piece that comes first by batch, block and transaction, or runs it where
 //!   it may touch any row of its block. [`Core::finish`] takes the result, [`Core::give_back`] the work undone, and
-//!   [`Core::reclaim`] or [`Core::take_back`] all that is out. Work of another core, or over rows that have changed since, is
-//!   refused as foreign.
+//!   [`Core::reclaim`] or [`Core::take_back`] all that is out. A result is refused as foreign where its work isn't what the core
+//!   would hand out for a piece that is out. The work that a take gave is, until its piece is finished or put back.
 //! - [`Core::coming`] says which piece comes next, and [`Core::run_next`] runs it over the tables, with nothing handed out. While
 //!   no piece of a set was handed out, its pieces come in their order, and nothing is computed of what each may touch.
 //!   [`Core::drain`] runs all that is left so, and [`Core::outcome`] gives the tables, and the first transaction that aborted.
 //! - [`Core::load_all`] loads batches one after another. [`Core::ready`] is an estimate of what a take may find ready, and
-//!   [`weight_of`] of what a piece costs.
+//!   [`weight_of`] of what a piece costs; neither has a clause. [`Core::keeps_invariant`] says what holds at every moment.
 //! - [`Core::next_txn`], [`Core::is_closed`], [`Core::is_finished`], [`Core::unfinished`] and [`Core::pairs`] say how far it
 //!   is. [`Core::job`] copies what tells its job, and [`Core::from_job`] begins that anew.
 //!
@@ -21,8 +21,14 @@
 //! core.load(batch)?;
 //! core.close();
 //! while let Take::Given(work) = core.take()? {
-//!     core.finish(run(alloc, work)?);
+//!     match run(alloc, work) {
+//!         Ok(done) => {
+//!             core.finish(done); // `Kept`, or the result comes back
+//!         }
+//!         Err((work, NoMemory)) => core.give_back(work),
+//!     }
 //! }
+//! core.take_back(); // what found no room
 //! core.drain()?; // what is ready later
 //! let Outcome { tables, first_note } = core.outcome();
 //! ```

@@ -1,8 +1,9 @@
 // The state of a replay.
-ghost use Rattle.std.specs.Prelude.{◌≡◌, ◌↔◌, ◌<◌, ◌+◌, ◌^◌, [], true, length, IfErr, IfOk, IsTrue, OnErr, OnOk};
+ghost use Rattle.std.specs.Prelude.{◌≡◌, ◌↔◌, ◌<◌, ◌≤◌, ◌+◌, ◌*◌, ◌^◌, [], true, length, IfErr, IfOk, IsTrue, OnErr, OnOk};
 ghost use Rattle.pac_ops.specs.Shapes.{RowsFit};
 ghost use Rattle.pac_commute.specs.Loads.{next_in_job};
-ghost use Rattle.pac_core.specs.Calls.{HasReadyPiece, IsReplayDone, IsDrained, IsGivenBack, IsHandedIn, IsJobOf, IsNextFinished, IsOfJob, IsReplayOutcome, IsOwn, IsTakenPiece, MayLoad, MayLoadAll, MovesOut, handed_in_by, run_by, with_batches};
+ghost use Rattle.pac_core.specs.Calls.{HasReadyPiece, IsReplayDone, IsDrained, IsGivenBack, IsHandedIn, IsJobOf, IsNextFinished, IsOfJob, IsReplayOutcome, IsOwn, IsTakenPiece, MayLoad, MayLoadAll, MovesOut, handed_in_by, run_by, touches_loaded, with_batches};
+ghost use Rattle.pac_core.specs.Events.{HasEvents, IsSound, OwnIsWork};
 ghost use Rattle.pac_core.specs.Replay.{closed, left, loaded_pieces, opening_replay, with_batch_loaded, with_none_out};
 ghost use Rattle.pac_core.specs.Takes.{IsNextPiece};
 
@@ -92,6 +93,22 @@ impl<R: Rows> Core<R> {
         self.progress.unfinished == 0
     }
 
+    /// What holds at every moment. The plan is one, the batches' numbers run on, and their transactions fit it; the predecessors
+    /// of each piece that is out or finished are finished; the tables, values and note are those of the finished pieces, applied
+    /// in the order of transactions. Where none is out, a piece is ready while any is left. Each call is a step of the replay
+    /// machine, and work that a take gave is own work until its piece is finished or put back, so that its result isn't foreign.
+    /// It is work in the sense of the laws of pieces.
+    ///
+    /// States facts, and does nothing.
+    pub fn keeps_invariant(&self)
+        ensures sound { IsSound self.now }
+        ensures ready { HasReadyPiece self.now }
+        ensures events { HasEvents self.now }
+        ensures work { OwnIsWork self.now }
+    {
+        let _progress = &self.progress;
+    }
+
     /// No more batches come. Takes no memory.
     pub fn close(&mut self)
         ensures { self.new ≡ closed self.old }
@@ -141,8 +158,8 @@ impl<R: Rows> Core<R> {
         Ok(())
     }
 
-    /// About how many pieces a take may find ready, and what they weigh. Pieces that a take would open first count too.
-    /// Takes no memory, and time that grows with the number of the plan's blocks.
+    /// About how many pieces a take may find ready, and what they weigh. Pieces that a take would open first count too. An
+    /// estimate, with no clause: nothing may rest on it. Takes no memory, and time that grows with the number of the plan's blocks.
     pub fn ready(&self) -> ReadyPieces {
         self.progress.ready()
     }
@@ -249,19 +266,12 @@ impl<R: Rows> Core<R> {
         ensures ok { OnOk result (left self.new + 1 ≡ left self.old) }
         ensures drained { IsDrained self.old self.new }
     {
-        self.some_ready();
+        self.keeps_invariant();
         let next = self.run_next()?;
         match next {
             Some(_) => Ok(()),
             None => unreachable!(),
         }
-    }
-
-    // Where no piece is out, one is ready while any is left.
-    fn some_ready(&self)
-        ensures { HasReadyPiece self.now }
-    {
-        let _progress = &self.progress;
     }
 
     /// A copy of what tells the core's job.
@@ -327,9 +337,12 @@ impl<R: Rows> Core<R> {
         Ok(core)
     }
 
-    /// How many pairs of pieces, one of which waits for the other, are kept of the sets that are opened; the greatest `u64`
-    /// where there are more. Takes no memory, and time that grows with the number of loaded sets.
-    pub fn pairs(&self) -> u64 {
+    /// How many pairs of pieces, one of which waits for the other, are kept of the sets that are opened, or the greatest `u64`
+    /// where there are more. They are few: at most twice as many as the loaded pieces and the rows that these name. Takes no
+    /// memory, and time that grows with the number of loaded sets.
+    pub fn pairs(&self) -> u64
+        ensures { result ≤ 2 * touches_loaded self.now + 2 * length (loaded_pieces self.now) }
+    {
         self.progress.pairs()
     }
 

@@ -14,7 +14,8 @@ use pac_sets::SetId;
 // How many operations cost about as much as handing a piece out.
 const HANDING_OUT: usize = 8;
 
-/// What code weighs: how many operations or records it has beyond those that cost as much as handing it out.
+/// What code weighs: how many operations or records it has beyond those that cost as much as handing it out. An estimate,
+/// with no clause: nothing may rest on it.
 pub fn weight_of(code: &Code) -> u64 {
     let len = match code {
         Code::Ops(ops) => ops.len(),

@@ -3,6 +3,7 @@ use Rattle.std.proofs.Common.{sym, subst}
 use Rattle.pac_value.specs.State.{Tables}
 use Rattle.pac_sched.specs.declared.state.PieceState.TheVariants as state
 use Rattle.pac_commute.specs.Machine.{access_at}
+use Rattle.pac_commute.proofs.Steps.{needs_finished}
 use Rattle.pac_core.specs.Cells.{AreCellsOf, AreOf}
 use Rattle.pac_core.specs.Links.{core_of, job_of}
 use Rattle.pac_core.specs.Replay.{machine_of}
@@ -42,7 +43,7 @@ returns-in_ok-work-in-Keys-clause-given g c =
     given_work p u c.requires.core c.args.place c.args.piece (as_placed c.requires.place) c.txn_at-txn.result.now c.txn_at-txn.ensures c.values_at-kept.result.now c.values_at-kept.ensures
     c.as_slice.result.now (subst (AreCellsOf access) (sym c.as_slice.ensures.value) named) c.in_ok-work-in-Keys.work
     (subst (λ (t : Tables). IsWorkOver p.pieces c.args.piece c.txn_at-txn.result.now c.values_at-kept.result.now c.as_slice.result.now t c.in_ok-work-in-Keys.work) c.rows.ensures.rows c.in_ok-work-in-Keys.ensures)
-    c.requires.ready.3
+    (needs_finished (job_of c.args.progress.now c.args.rows.now) c.requires.core.progress.is_plan (machine_of (core_of c.args.progress.now c.args.rows.now)) c.args.piece c.requires.ready.3)
 
 pub returns-in-Whole-clause-whole : goal.returns-in-Whole-clause-whole
 returns-in-Whole-clause-whole g c =

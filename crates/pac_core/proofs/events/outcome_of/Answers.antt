@@ -10,8 +10,10 @@ use Rattle.pac_plan.specs.declared.code.Code.{Code}
 use Rattle.pac_plan.specs.Codes.{code_in}
 use Rattle.pac_piece.specs.declared.on_tables.PieceOutcome.{PieceOutcome}
 use Rattle.pac_piece.specs.Values.{IsEndOver}
+use Rattle.pac_commute.proofs.Steps.{needs_finished}
 use Rattle.pac_core.specs.declared.progress.Progress.{Progress}
-use Rattle.pac_core.specs.Links.{core_of}
+use Rattle.pac_core.specs.Links.{core_of, job_of}
+use Rattle.pac_core.specs.Replay.{machine_of}
 use Rattle.pac_core.specs.Results.{IsResultAmong}
 use Rattle.pac_core.proofs.EndValues.{leaves_passed}
 use Rattle.pac_core.proofs.TakeNext.{kept_after_is}
@@ -32,7 +34,7 @@ find-requires-clause-block g c = block_inside c.args.progress.now c.args.rows.no
 
 pub run_on-requires : goal.run_on-requires
 run_on-requires g c =
-    may_run_on c.args.progress.now c.args.rows.now c.requires.core c.args.place c.args.piece c.requires.place c.txn_at-txn.result.now c.txn_at-txn.ensures c.values_at-kept.result.now c.values_at-kept.ensures c.requires.ready.3
+    may_run_on c.args.progress.now c.args.rows.now c.requires.core c.args.place c.args.piece c.requires.place c.txn_at-txn.result.now c.txn_at-txn.ensures c.values_at-kept.result.now c.values_at-kept.ensures (needs_finished (job_of c.args.progress.now c.args.rows.now) c.requires.core.progress.is_plan (machine_of (core_of c.args.progress.now c.args.rows.now)) c.args.piece c.requires.ready.3)
     c.find.new.env c.in_ok-find.ensures c.get.result.now (c.get.ensures ∙ c.in_ok-code.ensures) _ (sym c.rows.ensures.tables) _ c.rows.ensures.rows
 
 pub returns-clause-result : goal.returns-clause-result
@@ -54,7 +56,7 @@ returns-clause-result g c = go c.run_on.result c.run_on.ensures.value
         → IsResultAmong (core_of p c.args.rows.now) p c.args.place c.args.piece outcome.writes outcome.values outcome.note
     of_core outcome end = record {
       outs = end.outs;
-      result = result_is p c.args.rows.now c.requires.core c.args.place c.args.piece c.requires.place txn c.txn_at-txn.ensures kept c.values_at-kept.ensures c.requires.ready.3 c.requires.ready.2
+      result = result_is p c.args.rows.now c.requires.core c.args.place c.args.piece c.requires.place txn c.txn_at-txn.ensures kept c.values_at-kept.ensures (needs_finished (job_of c.args.progress.now c.args.rows.now) c.requires.core.progress.is_plan (machine_of (core_of c.args.progress.now c.args.rows.now)) c.args.piece c.requires.ready.3) c.requires.ready.2
           env c.in_ok-find.ensures c.args.rows.now.current (λ a covers. ap (λ (t : Tables). get t a) c.requires.core.rows) outcome.writes end.outs outcome.note end.value;
       leaves = λ now after. kept_after_is p c.args.place c.args.piece end.outs txn c.txn_at-txn.ensures kept c.values_at-kept.ensures now
           (leaves_passed p.pieces c.args.piece.block txn kept env c.in_ok-find.ensures c.args.piece.txn c.args.rows.now.current outcome.writes outcome.values outcome.note end kept now

@@ -4,13 +4,12 @@ use Rattle.std.proofs.lemmas.List.{length-map, take_all}
 use Rattle.pac_base.specs.Members.{Rises}
 use Rattle.pac_ops.specs.declared.piece.PieceId.{PieceId}
 use Rattle.pac_plan.specs.declared.access.Access.{Access}
-use Rattle.pac_batch.specs.NextLists.{AreNextPairs}
 use Rattle.pac_sched.specs.declared.state.PieceState.TheVariants as state
 use Rattle.pac_sched.specs.Schedules.{AreDifferent, Schedule, after_opening}
 use Rattle.pac_sched.proofs.OpeningLemmas.{ascending_differ, first_opened}
 use Rattle.pac_core.specs.declared.cells.PieceCells.{PieceCells}
 use Rattle.pac_core.specs.Cells.{HasCellsOf}
-use Rattle.pac_core.specs.Links.{piece_in}
+use Rattle.pac_core.specs.Links.{AreKeptPairs, piece_in}
 use Rattle.pac_core.specs.Moves.{access_over}
 use Rattle.pac_core.proofs.Ascending.{ascending, rises_end, set_rises}
 use Rattle.pac_core.proofs.OpeningLists.{has_more, map_more, pairs_below, set_fewer, set_range}
@@ -89,7 +88,7 @@ returns c =
     record {
       pieces = ap (λ (s : Schedule). s.pieces) sched ∙ pieces;
       states = ap (λ (s : Schedule). s.states) sched ∙ ap (λ n. replicate n state.Waiting) (ap length pieces ∙ length-map txns (piece_in c.args.block));
-      pairs = subst (AreNextPairs (map over txns)) (sym (ap (λ (s : Schedule). s.pairs) sched))
-          (subst (λ (l : List Access). AreNextPairs l c.in_ok-preds.preds) (c.deref.ensures.value ∙ accesses) c.in_ok-preds.ensures.next);
+      pairs = subst (AreKeptPairs (map over txns)) (sym (ap (λ (s : Schedule). s.pairs) sched))
+          (subst (λ (l : List Access). AreKeptPairs l c.in_ok-preds.preds) (c.deref.ensures.value ∙ accesses) (c.in_ok-preds.ensures.next, c.in_ok-preds.ensures.few));
       cells = subst (λ (l : List Access). HasCellsOf l c.loop-txn.cells.items) accesses c.loop-txn.invariant.cells;
     }
