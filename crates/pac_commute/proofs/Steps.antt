@@ -142,13 +142,13 @@ module _ (job : Job) (is : IsPlan job.parts) where
           → needs (world_at job m') (ends_at job m') p q ≡ needs w env p q
       needs_same p q lp lq = λ i. (p.txn == q.txn && w.edge p.block q.block) || (p.block == q.block && nat_lt p.txn q.txn && conflicts (keeps_load.accesses p lp i) (keeps_load.accesses q lq i))
 
-      -- what a piece that was there needs was there
-      needs_kept : (p q : PieceId) → Mem p (pieces_at job m') → q.txn < next_in_job job m.batches → needs (world_at job m') (ends_at job m') p q ≡ true
-          → (Mem p L → needs w env p q ≡ true → m.finished p ≡ true) → m.finished p ≡ true
-      needs_kept p q mp lt n f = go (nat_lt p.txn (next_in_job job m.batches)) refl
+      -- what a piece that was there needs was there, and it needed it
+      pub old_needs : (p q : PieceId) → Mem p (pieces_at job m') → q.txn < next_in_job job m.batches → needs (world_at job m') (ends_at job m') p q ≡ true
+          → Mem p L × (needs w env p q ≡ true)
+      old_needs p q mp lt n = go (nat_lt p.txn (next_in_job job m.batches)) refl
         where
-          go : (b : Bool) → nat_lt p.txn (next_in_job job m.batches) ≡ b → m.finished p ≡ true
-          go true h = let lp : p.txn < next_in_job job m.batches = grind (arith, nat_tests) in f (keeps_load.old p mp lp) (sym (needs_same p q lp lt) ∙ n)
+          go : (b : Bool) → nat_lt p.txn (next_in_job job m.batches) ≡ b → Mem p L × (needs w env p q ≡ true)
+          go true h = let lp : p.txn < next_in_job job m.batches = grind (arith, nat_tests) in (keeps_load.old p mp lp, sym (needs_same p q lp lt) ∙ n)
           go false h = let le : next_in_job job m.batches ≤ p.txn = grind (arith, nat_tests) in
               absurd (true≢false (sym (precedes_needed (world_at job m') (well_formed_plan job.parts is job.first (and_batch m.batches batch)) (ends_at job m') p q n) ∙ keeps_load.later p q le lt))
 
@@ -158,7 +158,7 @@ module _ (job : Job) (is : IsPlan job.parts) where
           record {
             there = old.1;
             unfinished = o.unfinished;
-            needed = λ q mq n. needs_kept q p mq old.0 n (λ k r. o.needed q k r);
+            needed = λ q mq n. let was = old_needs q p mq old.0 n in o.needed q was.0 was.1;
             keys = λ whole. o.keys (sym (keeps_load.accesses p old.0) ∙ whole);
           }
 
@@ -166,7 +166,7 @@ module _ (job : Job) (is : IsPlan job.parts) where
       load_keeps = record {
         run_on = run_on-more job.first m.batches batch inv.run_on next;
         fit = subst (TxnsFitPlan job.parts) (sym (txns-more m.batches batch)) (fit_more job.parts (txns_of m.batches) batch.txns inv.fit fits);
-        closed = λ p q mp mq n f. needs_kept p q mp (old_finished q f) n (λ k r. inv.closed p q k (keeps_load.old q mq (old_finished q f)) r f);
+        closed = λ p q mp mq n f. let was = old_needs p q mp (old_finished q f) n in inv.closed p q was.0 (keeps_load.old q mq (old_finished q f)) was.1 f;
         finished = λ p f. (keeps_load.there p (inv.finished p f)).1;
         outs = λ p o. load_out p (inv.outs p o);
         now = ap (loaded (next_in_job job m.batches) (begin job (and_batch m.batches batch)).envs) inv.now

@@ -1,6 +1,6 @@
 // Pieces that are out, all of them ready again.
-ghost use Rattle.std.specs.Prelude.{◌≡◌, ◌↔◌, ◌<◌, IsTrue, length};
-ghost use Rattle.pac_core.specs.Moves.{IsReclaimedAt, StandsOpen, reclaimed_sets};
+ghost use Rattle.std.specs.Prelude.{◌≡◌, ◌↔◌, ◌<◌, ◌≤◌, IsTrue, length};
+ghost use Rattle.pac_core.specs.Moves.{HasPairsAt, IsReclaimedAt, StandsOpen, pairs_kept, reclaimed_sets};
 
 use crate::progress::Progress;
 use crate::stage::SetStage;
@@ -43,7 +43,9 @@ impl Progress {
     }
 
     /// How many pairs are kept of the sets that are opened, or the greatest `u64`. Takes no memory.
-    pub fn pairs(&self) -> u64 {
+    pub fn pairs(&self) -> u64
+        ensures { result ≤ pairs_kept self.now.sets.sets }
+    {
         let mut pairs: u64 = 0;
         for i in 0..self.sets.len() {
             pairs = pairs.saturating_add(self.pairs_at(i));
@@ -54,6 +56,7 @@ impl Progress {
     // How many pairs are kept of the set at an offset.
     fn pairs_at(&self, at: usize) -> u64
         requires { at < length self.now.sets.sets }
+        ensures { HasPairsAt self.now at result }
     {
         let (_, kept) = self.sets.get(at);
         let Some(stage) = kept else { return 0 };

@@ -1,8 +1,8 @@
 // The state of a replay.
-ghost use Rattle.std.specs.Prelude.{◌≡◌, ◌↔◌, ◌<◌, ◌+◌, ◌^◌, [], true, length, IfErr, IfOk, IsTrue, OnErr, OnOk};
+ghost use Rattle.std.specs.Prelude.{◌≡◌, ◌↔◌, ◌<◌, ◌≤◌, ◌+◌, ◌*◌, ◌^◌, [], true, length, IfErr, IfOk, IsTrue, OnErr, OnOk};
 ghost use Rattle.pac_ops.specs.Shapes.{RowsFit};
 ghost use Rattle.pac_commute.specs.Loads.{next_in_job};
-ghost use Rattle.pac_core.specs.Calls.{HasReadyPiece, IsReplayDone, IsDrained, IsGivenBack, IsHandedIn, IsJobOf, IsNextFinished, IsOfJob, IsReplayOutcome, IsOwn, IsTakenPiece, MayLoad, MayLoadAll, MovesOut, handed_in_by, run_by, with_batches};
+ghost use Rattle.pac_core.specs.Calls.{HasReadyPiece, IsReplayDone, IsDrained, IsGivenBack, IsHandedIn, IsJobOf, IsNextFinished, IsOfJob, IsReplayOutcome, IsOwn, IsTakenPiece, MayLoad, MayLoadAll, MovesOut, handed_in_by, run_by, touches_loaded, with_batches};
 ghost use Rattle.pac_core.specs.Events.{HasEvents, IsSound, OwnIsWork};
 ghost use Rattle.pac_core.specs.Replay.{closed, left, loaded_pieces, opening_replay, with_batch_loaded, with_none_out};
 ghost use Rattle.pac_core.specs.Takes.{IsNextPiece};
@@ -340,7 +340,9 @@ impl<R: Rows> Core<R> {
     /// How many pairs of pieces, one of which waits for the other, are kept of the sets that are opened, or the greatest `u64`
     /// where there are more. They are few: at most twice as many as the loaded pieces and the rows that these name. Takes no
     /// memory, and time that grows with the number of loaded sets.
-    pub fn pairs(&self) -> u64 {
+    pub fn pairs(&self) -> u64
+        ensures { result ≤ 2 * touches_loaded self.now + 2 * length (loaded_pieces self.now) }
+    {
         self.progress.pairs()
     }
 
