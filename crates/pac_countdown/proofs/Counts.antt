@@ -7,11 +7,11 @@ use lib.ListN.{get_elem?}
 use Rattle.atomic_table.specs.Table.{State, step, keeps, stepped, Allows}
 use Rattle.atomic_table.proofs.Lists.{at_set}
 use Rattle.pac_countdown.specs.Lists.{one_if, same, same_pair, times_in, pair_times, pairs_to, sum_over, below}
-use Rattle.pac_countdown.specs.Counted.{IsCounted, Fits, FitsRole, InOrder, pairs_of, starting, word, is_opener, is_lent, opened_in, handed_in, counted_in, counted_to, openers_in, lent_in}
+use Rattle.pac_countdown.specs.Counted.{IsCounted, Fits, FitsKind, InOrder, pairs_of, starting, word, is_opener, is_lent, opened_in, handed_in, counted_in, counted_to, openers_in, lent_in}
 use Rattle.pac_countdown.specs.Steps.{handed_more, after_open, HasOpened, TakesOne, after_count, HasCounted}
 use Rattle.pac_countdown.specs.declared.deeds.Deeds.{Deeds}
-use Rattle.pac_countdown.specs.declared.deeds.Role.{Role}
-use Rattle.pac_countdown.specs.declared.deeds.Role.TheVariants.{Opener, Lent, Spent}
+use Rattle.pac_countdown.specs.declared.deeds.PassKind.{PassKind}
+use Rattle.pac_countdown.specs.declared.deeds.PassKind.TheVariants.{Opener, Lent, Spent}
 use Rattle.pac_countdown.specs.declared.deeds.Agenda.{Agenda}
 use Rattle.pac_countdown.proofs.Sums.{same_yes, same_no, pair_yes, pair_no, pair_discrete, times_snoc, pair_times_append, pairs_to_append, over_set, over_at, inside_default}
 use Rattle.pac_countdown.proofs.Facts.{none_handed, counted_within, counted_room, not_counted, not_waited, not_opened}
@@ -40,10 +40,10 @@ module _ (agenda : Agenda) (s : State (Unit {0}) Deeds) (r : IsCounted agenda s)
       → ((q : ℕ) → opened_in q (set s.views id w) ≤ 1)
       → ((q : ℕ × ℕ) → counted_in q (set s.views id w) ≤ pair_times q (pairs_of agenda))
       → w.handed ≡ handed_more v.handed p (eqb n 1)
-      → w.role ≡ v.role
+      → w.kind ≡ v.kind
       → Fits (pairs_of agenda) (lent_in s.views) w
       → IsCounted agenda (stepped s p m id [] w keeps)
-  takes_one one once pairs_once now role fits = record { size = length-set s.words p m ∙ r.size; counts = counts; opened_once = once; pairs_once = r.pairs_once; counted_once = pairs_once; handed = handed; one_opener = one_opener; each = each }
+  takes_one one once pairs_once now kind fits = record { size = length-set s.words p m ∙ r.size; counts = counts; opened_once = once; pairs_once = r.pairs_once; counted_once = pairs_once; handed = handed; one_opener = one_opener; each = each }
     where
       counts : (q : ℕ) → word (set s.words p m) q + opened_in q (set s.views id w) + counted_to q (set s.views id w) ≡ starting (pairs_of agenda) q
       counts q = let a = others (λ u. times_in q u.opened) in let b = others (λ u. pairs_to q u.counted) in let c = r.counts q in let d = one q in
@@ -63,10 +63,10 @@ module _ (agenda : Agenda) (s : State (Unit {0}) Deeds) (r : IsCounted agenda s)
           let d' : times_in q w.handed ≡ times_in q v.handed = d ∙ ap (λ (x : ℕ). times_in q v.handed + x * one_if (eqb n 1)) (same_no q p ne) ∙ omega arith in omega arith)
 
       one_opener : openers_in (set s.views id w) ≡ 1
-      one_opener = let a = others (λ u. one_if (is_opener u.role)) in let b = ap (λ (x : Role). one_if (is_opener x)) role in let c = r.one_opener in omega arith
+      one_opener = let a = others (λ u. one_if (is_opener u.kind)) in let b = ap (λ (x : PassKind). one_if (is_opener x)) kind in let c = r.one_opener in omega arith
 
       lent_same : lent_in (set s.views id w) ≡ lent_in s.views
-      lent_same = let a = others (λ u. one_if (is_lent u.role)) in let b = ap (λ (x : Role). one_if (is_lent x)) role in omega arith
+      lent_same = let a = others (λ u. one_if (is_lent u.kind)) in let b = ap (λ (x : PassKind). one_if (is_lent x)) kind in omega arith
 
       each : (i : ℕ) (u : Deeds) → get_elem? (set s.views id w) i ≡ some u → Fits (pairs_of agenda) (lent_in (set s.views id w)) u
       each i u e = subst (λ (k : ℕ). Fits (pairs_of agenda) k u) (sym lent_same)
@@ -79,17 +79,17 @@ times_grow q xs p false = omega arith
 less_one : (n : ℕ) → 0 < n → n < 18446744073709551616 → (n + (2 ^ 64 - 1)) % 2 ^ 64 ≡ n - 1
 less_one n positive small = let big : n < 18446744073709551616 = small in omega arith
 
-opens_fits : (pairs : List (ℕ × ℕ)) (lent : ℕ) (v : Deeds) (b : Bool) → v.role ≡ Opener → Fits pairs lent v → Fits pairs lent (after_open v (length v.opened) b)
-opens_fits pairs lent v b role f = record { earlier = λ q h. let e = f.earlier q h in let g = times_grow q.0 v.handed (length v.opened) b in omega arith; role = fits; splits = f.splits }
+opens_fits : (pairs : List (ℕ × ℕ)) (lent : ℕ) (v : Deeds) (b : Bool) → v.kind ≡ Opener → Fits pairs lent v → Fits pairs lent (after_open v (length v.opened) b)
+opens_fits pairs lent v b kind f = record { earlier = λ q h. let e = f.earlier q h in let g = times_grow q.0 v.handed (length v.opened) b in omega arith; kind = fits; splits = f.splits }
   where
     o : v.opened ≡ below (length v.opened)
-    o = subst (λ (ro : Role). FitsRole pairs ro v) role f.role
+    o = subst (λ (ro : PassKind). FitsKind pairs ro v) kind f.kind
 
     longer : length (v.opened ++ length v.opened ∷ []) ≡ suc (length v.opened)
     longer = omega (arith, length-append v.opened (length v.opened ∷ []))
 
-    fits : FitsRole pairs v.role (after_open v (length v.opened) b)
-    fits = subst (λ (ro : Role). FitsRole pairs ro (after_open v (length v.opened) b)) (sym role)
+    fits : FitsKind pairs v.kind (after_open v (length v.opened) b)
+    fits = subst (λ (ro : PassKind). FitsKind pairs ro (after_open v (length v.opened) b)) (sym kind)
         (ap (λ (l : List ℕ). l ++ length v.opened ∷ []) o ∙ ap below (sym longer))
 
 -- a step that leaves n
@@ -97,13 +97,13 @@ step_from : (agenda : Agenda) (s : State (Unit {0}) Deeds) (id : ℕ) (v w : Dee
     → IsCounted agenda (stepped s p (n - 1) id [] w keeps) → TakesOne agenda id p v (n - 1) w
 step_from agenda s id v w p n held seen found positive holds = record { before = s; held = held; seen = seen; found = omega arith; holds = holds }
 
-pub opens : (agenda : Agenda) (slots id : ℕ) (v : Deeds) → v.role ≡ Opener → length v.opened < agenda.pieces
+pub opens : (agenda : Agenda) (slots id : ℕ) (v : Deeds) → v.kind ≡ Opener → length v.opened < agenda.pieces
     → Allows (IsCounted agenda) slots id (v, []) (length v.opened) (λ n. (n + (2 ^ 64 - 1)) % 2 ^ 64) (HasOpened agenda id (step slots (length v.opened) 1 0 none) (v, []))
-opens agenda slots id v role some_left s r len at small =
+opens agenda slots id v kind some_left s r len at small =
     let p : ℕ = length v.opened in let n : ℕ = get_or s.words p 0 in let size = r.size in
     let inside : p < length s.words = omega arith in
     let found : word s.words p ≡ n = inside_default s.words p 1 0 inside in
-    let none_open = not_opened agenda s r id v at role in
+    let none_open = not_opened agenda s r id v at kind in
     let c = r.counts p in let w = counted_within agenda s r p in
     let positive : 0 < n = omega arith in
     let less : n ≡ (n - 1) + 1 = omega arith in
@@ -117,7 +117,7 @@ opens agenda slots id v role some_left s r len at small =
     (λ q. let a = over_set (λ (u : Deeds). pair_times q u.counted) s.views id v (after_open v p (eqb n 1)) at in let o = r.counted_once q in omega arith)
     refl
     refl
-    (opens_fits (pairs_of agenda) (lent_in s.views) v (eqb n 1) role (r.each id v at)) in (
+    (opens_fits (pairs_of agenda) (lent_in s.views) v (eqb n 1) kind (r.each id v at)) in (
       after_open v p (eqb n 1),
       keeps,
       tt,
@@ -137,7 +137,7 @@ in_order_snoc pairs (x ∷ xs) p o h = (first, in_order_snoc pairs xs p o.1 (λ 
 -- who counts a pair of a piece that it was handed keeps to what passes keep to
 counts_fits : (pairs : List (ℕ × ℕ)) (lent : ℕ) (v : Deeds) (from p : ℕ) (b : Bool) → 0 < times_in from v.handed → Fits pairs lent v
     → ((x : ℕ) → 0 < times_in x v.handed → pair_times (p, x) pairs ≡ 0) → Fits pairs lent (after_count v from p b)
-counts_fits pairs lent v from p b has f free = record { earlier = earlier; role = by_role v.role f.role; splits = f.splits }
+counts_fits pairs lent v from p b has f free = record { earlier = earlier; kind = by_kind v.kind f.kind; splits = f.splits }
   where
     earlier : (q : ℕ × ℕ) → 0 < pair_times q (v.counted ++ (from, p) ∷ []) → 0 < times_in q.0 (handed_more v.handed p b)
     earlier q h = let g = times_grow q.0 v.handed p b in let a = pair_times_append q v.counted ((from, p) ∷ []) in dite (pair_discrete q (from, p))
@@ -148,10 +148,10 @@ counts_fits pairs lent v from p b has f free = record { earlier = earlier; role 
     ordered true o = in_order_snoc pairs v.handed p o free
     ordered false o = o
 
-    by_role : (ro : Role) → FitsRole pairs ro v → FitsRole pairs ro (after_count v from p b)
-    by_role Opener o = o
-    by_role Lent o = (o.0, ordered b o.1)
-    by_role Spent o = let z = ap (times_in from) o.2 in absurd (omega arith)
+    by_kind : (ro : PassKind) → FitsKind pairs ro v → FitsKind pairs ro (after_count v from p b)
+    by_kind Opener o = o
+    by_kind Lent o = (o.0, ordered b o.1)
+    by_kind Spent o = let z = ap (times_in from) o.2 in absurd (omega arith)
 
 pub counts_pair : (agenda : Agenda) (slots id : ℕ) (v : Deeds) (from p : ℕ) → p < agenda.pieces → 0 < times_in from v.handed → 0 < pair_times (from, p) (pairs_of agenda) → pair_times (from, p) v.counted ≡ 0
     → Allows (IsCounted agenda) slots id (v, []) p (λ n. (n + (2 ^ 64 - 1)) % 2 ^ 64) (HasCounted agenda id from (step slots p 1 0 none) (v, []))

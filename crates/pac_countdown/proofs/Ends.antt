@@ -7,11 +7,11 @@ use lib.ListN.{get_elem?}
 use Rattle.atomic_table.specs.Table.{State, step, keeps, stepped, Allows, opening}
 use Rattle.atomic_table.proofs.Lists.{at_set, set_again}
 use Rattle.pac_countdown.specs.Lists.{one_if, times_in, pair_times, pairs_to, sum_over}
-use Rattle.pac_countdown.specs.Counted.{IsCounted, Fits, FitsRole, pairs_of, starting, word, is_opener, is_lent, opened_in, handed_in, counted_in, lent_in, RuleSays}
+use Rattle.pac_countdown.specs.Counted.{IsCounted, Fits, FitsKind, pairs_of, starting, word, is_opener, is_lent, opened_in, handed_in, counted_in, lent_in, RuleSays}
 use Rattle.pac_countdown.specs.Steps.{spent_deeds, IsDue, IsAll, HasLooked, HasLoaded, first_deeds}
 use Rattle.pac_countdown.specs.declared.deeds.Deeds.{Deeds}
-use Rattle.pac_countdown.specs.declared.deeds.Role.{Role}
-use Rattle.pac_countdown.specs.declared.deeds.Role.TheVariants.{Opener, Lent, Spent}
+use Rattle.pac_countdown.specs.declared.deeds.PassKind.{PassKind}
+use Rattle.pac_countdown.specs.declared.deeds.PassKind.TheVariants.{Opener, Lent, Spent}
 use Rattle.pac_countdown.specs.declared.deeds.Agenda.{Agenda}
 use Rattle.pac_countdown.proofs.Sums.{over_set, over_at, over_two, over_find, all_there, inside_default}
 use Rattle.pac_countdown.proofs.Facts.{word_of_handed, handed_once, all_opened, all_counted, beside}
@@ -22,11 +22,11 @@ set_found (x ∷ xs) zero = refl
 set_found (x ∷ xs) (suc i) = λ k. x ∷ set_found xs i k
 
 -- where all others are joined, the opener's pass has all lists
-module _ (agenda : Agenda) (s : State (Unit {0}) Deeds) (r : IsCounted agenda s) (id : ℕ) (v : Deeds) (at : get_elem? s.views id ≡ some v) (role : v.role ≡ Opener) (none_lent : lent_in s.views ≡ 0) where
-  empty_beside : (i : ℕ) (u : Deeds) → get_elem? s.views i ≡ some u → i ≢ id → (ro : Role) → u.role ≡ ro → (u.opened ≡ []) × (u.counted ≡ []) × (u.handed ≡ [])
-  empty_beside i u e ne Opener is = absurd (beside agenda s r id i v u at e ne (ap is_opener role) (ap is_opener is))
-  empty_beside i u e ne Lent is = let a = over_at (λ (x : Deeds). one_if (is_lent x.role)) s.views i u e in let b = ap (λ (x : Role). one_if (is_lent x)) is in absurd (omega arith)
-  empty_beside i u e ne Spent is = subst (λ (ro : Role). FitsRole (pairs_of agenda) ro u) is (r.each i u e).role
+module _ (agenda : Agenda) (s : State (Unit {0}) Deeds) (r : IsCounted agenda s) (id : ℕ) (v : Deeds) (at : get_elem? s.views id ≡ some v) (kind : v.kind ≡ Opener) (none_lent : lent_in s.views ≡ 0) where
+  empty_beside : (i : ℕ) (u : Deeds) → get_elem? s.views i ≡ some u → i ≢ id → (ro : PassKind) → u.kind ≡ ro → (u.opened ≡ []) × (u.counted ≡ []) × (u.handed ≡ [])
+  empty_beside i u e ne Opener is = absurd (beside agenda s r id i v u at e ne (ap is_opener kind) (ap is_opener is))
+  empty_beside i u e ne Lent is = let a = over_at (λ (x : Deeds). one_if (is_lent x.kind)) s.views i u e in let b = ap (λ (x : PassKind). one_if (is_lent x)) is in absurd (omega arith)
+  empty_beside i u e ne Spent is = subst (λ (ro : PassKind). FitsKind (pairs_of agenda) ro u) is (r.each i u e).kind
 
   pub alone : (f : Deeds → ℕ) → ((u : Deeds) → u.opened ≡ [] → u.counted ≡ [] → u.handed ≡ [] → f u ≡ 0) → sum_over f s.views ≡ f v
   alone f none_of = let a = over_set f s.views id v spent_deeds at in let z = none_of spent_deeds refl refl refl in
@@ -34,7 +34,7 @@ module _ (agenda : Agenda) (s : State (Unit {0}) Deeds) (r : IsCounted agenda s)
       (λ ne. let t = over_find f (set s.views id spent_deeds) (omega arith) in
       absurd (⊎_elim
       (λ here. let k : f t.1 ≡ f spent_deeds = ap f (sym here.1) in let some_there = t.3 in omega arith)
-      (λ other. let m = empty_beside t.0 t.1 other.1 other.0 t.1.role refl in let k = none_of t.1 m.0 m.1 m.2 in let some_there = t.3 in omega arith)
+      (λ other. let m = empty_beside t.0 t.1 other.1 other.0 t.1.kind refl in let k = none_of t.1 m.0 m.1 m.2 in let some_there = t.3 in omega arith)
       (at_set s.views id t.0 spent_deeds t.1 t.2)))
 
   pub has_all : ((q : ℕ × ℕ) → pair_times q (pairs_of agenda) ≤ 1) → IsAll (pairs_of agenda) v
@@ -84,7 +84,7 @@ looks agenda slots id v p below_all s r len at small = (
     looked = record {
       done = λ h. let a = over_at (λ (u : Deeds). times_in p u.handed) s.views id v at in sym found ∙ word_of_handed agenda s r p (omega arith);
       most = let a = over_at (λ (u : Deeds). times_in p u.opened) s.views id v at in let b = over_at (λ (u : Deeds). pairs_to p u.counted) s.views id v at in let c = r.counts p in let f = found in omega arith;
-      ordered = λ e. (subst (λ (ro : Role). FitsRole (pairs_of agenda) ro v) e (r.each id v at).role).1;
+      ordered = λ e. (subst (λ (ro : PassKind). FitsKind (pairs_of agenda) ro v) e (r.each id v at).kind).1;
       joins = λ e. let z = (r.each id v at).splits (ap is_opener e) in omega arith;
       all = λ e same_many. let z = (r.each id v at).splits (ap is_opener e) in has_all agenda s r id v at e (omega arith) r.pairs_once;
     }
@@ -102,7 +102,7 @@ opens_rule agenda words once size starts = record {
 }
   where
     each : (i : ℕ) (u : Deeds) → get_elem? (first_deeds ∷ []) i ≡ some u → Fits (pairs_of agenda) 0 u
-    each zero u e = subst (Fits (pairs_of agenda) 0) (some-injective first_deeds u e) (record { earlier = λ q h. absurd (omega arith); role = refl; splits = λ o. refl })
+    each zero u e = subst (Fits (pairs_of agenda) 0) (some-injective first_deeds u e) (record { earlier = λ q h. absurd (omega arith); kind = refl; splits = λ o. refl })
     each (suc i) u e = absurd (some-ne-none u (sym e))
 
 pub rule_says : (agenda : Agenda) → RuleSays agenda

@@ -6,10 +6,10 @@ use native.Mathlib.Decide.{ℕ_discrete}
 use lib.ListN.{get_elem?}
 use Rattle.atomic_table.specs.Table.{State}
 use Rattle.pac_countdown.specs.Lists.{one_if, times_in, pair_times, pairs_to, below}
-use Rattle.pac_countdown.specs.Counted.{IsCounted, FitsRole, pairs_of, word, is_opener, opened_in, handed_in, counted_in, counted_to}
+use Rattle.pac_countdown.specs.Counted.{IsCounted, FitsKind, pairs_of, word, is_opener, opened_in, handed_in, counted_in, counted_to}
 use Rattle.pac_countdown.specs.declared.deeds.Deeds.{Deeds}
-use Rattle.pac_countdown.specs.declared.deeds.Role.{Role}
-use Rattle.pac_countdown.specs.declared.deeds.Role.TheVariants.{Opener, Lent, Spent}
+use Rattle.pac_countdown.specs.declared.deeds.PassKind.{PassKind}
+use Rattle.pac_countdown.specs.declared.deeds.PassKind.TheVariants.{Opener, Lent, Spent}
 use Rattle.pac_countdown.specs.declared.deeds.Agenda.{Agenda}
 use Rattle.pac_countdown.proofs.Sums.{same_no, times_snoc, over_at, over_two, over_find, within, room}
 
@@ -23,9 +23,9 @@ module _ (agenda : Agenda) (s : State (Unit {0}) Deeds) (r : IsCounted agenda s)
   one_view i j v w e f same_place = some-injective w v (sym f ∙ ap (get_elem? s.views) same_place ∙ e)
 
   -- there is no second opener
-  one_opener_at : (i j : ℕ) (v w : Deeds) → get_elem? s.views i ≡ some v → get_elem? s.views j ≡ some w → is_opener v.role ≡ true → is_opener w.role ≡ true → w ≡ v
+  one_opener_at : (i j : ℕ) (v w : Deeds) → get_elem? s.views i ≡ some v → get_elem? s.views j ≡ some w → is_opener v.kind ≡ true → is_opener w.kind ≡ true → w ≡ v
   one_opener_at i j v w e f a b = dite (ℕ_discrete j i) (λ h. one_view i j v w e f h)
-      (λ ne. let two = over_two (λ u. one_if (is_opener u.role)) s.views i j v w (λ h. ne (sym h)) e f in let x = ap one_if a in let y = ap one_if b in let one = r.one_opener in absurd (omega arith))
+      (λ ne. let two = over_two (λ u. one_if (is_opener u.kind)) s.views i j v w (λ h. ne (sym h)) e f in let x = ap one_if a in let y = ap one_if b in let one = r.one_opener in absurd (omega arith))
 
   pub word_of_handed : (p : ℕ) → 0 < handed_in p s.views → word s.words p ≡ 0
   word_of_handed p h = dite (ℕ_discrete (word s.words p) 0) (λ e. e) (λ ne. let z = ap one_if (ne_eqb (word s.words p) 0 ne) in let c = r.handed p in absurd (omega arith))
@@ -71,22 +71,22 @@ module _ (agenda : Agenda) (s : State (Unit {0}) Deeds) (r : IsCounted agenda s)
       (λ ne. let c = all_counted (p, x) (word_of_handed x h) (omega arith) in let e = earlier_handed (p, x) c in let n = none_handed p some_left in absurd (omega arith))
 
   -- the next piece wasn't opened yet
-  pub not_opened : (id : ℕ) (v : Deeds) → get_elem? s.views id ≡ some v → v.role ≡ Opener → opened_in (length v.opened) s.views ≡ 0
-  not_opened id v at role = dite (ℕ_discrete (opened_in (length v.opened) s.views) 0) (λ z. z)
+  pub not_opened : (id : ℕ) (v : Deeds) → get_elem? s.views id ≡ some v → v.kind ≡ Opener → opened_in (length v.opened) s.views ≡ 0
+  not_opened id v at kind = dite (ℕ_discrete (opened_in (length v.opened) s.views) 0) (λ z. z)
       (λ ne. let f = over_find (λ (u : Deeds). times_in (length v.opened) u.opened) s.views (omega arith) in
-      absurd (by_role f.1.role f.0 f.1 f.2 f.3 refl))
+      absurd (by_kind f.1.kind f.0 f.1 f.2 f.3 refl))
     where
       mine : times_in (length v.opened) v.opened ≡ 0
-      mine = let o : v.opened ≡ below (length v.opened) = subst (λ (ro : Role). FitsRole (pairs_of agenda) ro v) role (r.each id v at).role in
+      mine = let o : v.opened ≡ below (length v.opened) = subst (λ (ro : PassKind). FitsKind (pairs_of agenda) ro v) kind (r.each id v at).kind in
           ap (times_in (length v.opened)) o ∙ below_none (length v.opened) (length v.opened) (omega arith)
 
-      by_role : (ro : Role) (i : ℕ) (u : Deeds) → get_elem? s.views i ≡ some u → 0 < times_in (length v.opened) u.opened → u.role ≡ ro → ⊥
-      by_role Opener i u at_u h e = let is = one_opener_at id i v u at at_u (ap is_opener role) (ap is_opener e) in
+      by_kind : (ro : PassKind) (i : ℕ) (u : Deeds) → get_elem? s.views i ≡ some u → 0 < times_in (length v.opened) u.opened → u.kind ≡ ro → ⊥
+      by_kind Opener i u at_u h e = let is = one_opener_at id i v u at at_u (ap is_opener kind) (ap is_opener e) in
           let z : times_in (length v.opened) u.opened ≡ 0 = ap (λ (x : Deeds). times_in (length v.opened) x.opened) is ∙ mine in omega arith
-      by_role Lent i u at_u h e = let f = subst (λ (ro : Role). FitsRole (pairs_of agenda) ro u) e (r.each i u at_u).role in let z = ap (times_in (length v.opened)) f.0 in omega arith
-      by_role Spent i u at_u h e = let f = subst (λ (ro : Role). FitsRole (pairs_of agenda) ro u) e (r.each i u at_u).role in let z = ap (times_in (length v.opened)) f.0 in omega arith
+      by_kind Lent i u at_u h e = let f = subst (λ (ro : PassKind). FitsKind (pairs_of agenda) ro u) e (r.each i u at_u).kind in let z = ap (times_in (length v.opened)) f.0 in omega arith
+      by_kind Spent i u at_u h e = let f = subst (λ (ro : PassKind). FitsKind (pairs_of agenda) ro u) e (r.each i u at_u).kind in let z = ap (times_in (length v.opened)) f.0 in omega arith
 
 module _ (agenda : Agenda) (s : State (Unit {0}) Deeds) (r : IsCounted agenda s) where
   -- a pass beside the opener's isn't the opener's
-  pub beside : (i j : ℕ) (v w : Deeds) → get_elem? s.views i ≡ some v → get_elem? s.views j ≡ some w → j ≢ i → is_opener v.role ≡ true → is_opener w.role ≡ true → ⊥
-  beside i j v w e f ne a b = let two = over_two (λ u. one_if (is_opener u.role)) s.views i j v w (λ h. ne (sym h)) e f in let x = ap one_if a in let y = ap one_if b in let one = r.one_opener in omega arith
+  pub beside : (i j : ℕ) (v w : Deeds) → get_elem? s.views i ≡ some v → get_elem? s.views j ≡ some w → j ≢ i → is_opener v.kind ≡ true → is_opener w.kind ≡ true → ⊥
+  beside i j v w e f ne a b = let two = over_two (λ u. one_if (is_opener u.kind)) s.views i j v w (λ h. ne (sym h)) e f in let x = ap one_if a in let y = ap one_if b in let one = r.one_opener in omega arith

@@ -134,7 +134,7 @@ counts_on countdown start worker next laters k from b c inside few of fresh did 
     held : IsHeld countdown next
     held = record {
       of = of;
-      lent = ap (λ (v : Deeds). v.role) did ∙ c.held.lent;
+      lent = ap (λ (v : Deeds). v.kind) did ∙ c.held.lent;
       handed = ap (λ (v : Deeds). v.handed) did ∙ ap (λ (l : List ℕ). handed_more l (get_or laters k 0) b) c.held.handed ∙ sym pieces;
       distinct = record {
         differ = differ_more worker.pieces.items next.pieces.items (get_or laters k 0) b pieces (ap (times_in (get_or laters k 0)) (sym c.held.handed) ∙ fresh) c.held.distinct.differ;

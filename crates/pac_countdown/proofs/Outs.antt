@@ -7,9 +7,10 @@ use Rattle.std.specs.List.{All}
 use Rattle.pac_countdown.specs.Lists.{one_if, times_in, pair_times, sum_over, below, except, keep_if}
 use Rattle.pac_countdown.specs.Counted.{InOrder, pairs_of}
 use Rattle.pac_countdown.specs.Steps.{handed_more, after_open, after_split, after_join, lent_deeds, AreBelow, IsAll}
-use Rattle.pac_countdown.specs.HandOut.{IsUnworked, IsWorkedOff, opener_deeds, AreDistinctBelow, AreOrdered, HasJoined}
+use Rattle.pac_countdown.specs.HandOut.{IsUnworked, IsWorkedOff, opener_deeds, AreDistinctBelow, HasJoined}
+use Rattle.pac_countdown.specs.Shares.{times_in_all, AreOrdered}
 use Rattle.pac_countdown.specs.declared.deeds.Deeds.{Deeds}
-use Rattle.pac_countdown.specs.declared.deeds.Role.TheVariants.{Opener}
+use Rattle.pac_countdown.specs.declared.deeds.PassKind.TheVariants.{Opener}
 use Rattle.pac_countdown.specs.declared.countdown.Countdown.{Countdown}
 use Rattle.pac_countdown.specs.declared.worker.Worker.{Worker}
 use Rattle.pac_countdown.proofs.Sums.{same_yes, same_no, times_snoc, times_append, pair_times_append, over_snoc}
@@ -23,7 +24,7 @@ length_below (suc n) = let r = length_below n in omega (arith, length-append (be
 pub opened_on : (v w : Deeds) (n : ℕ) (xs ys : List ℕ) (b : Bool) → v ≡ opener_deeds n xs 0 → w ≡ after_open v (length v.opened) b → ys ≡ handed_more xs n b → w ≡ opener_deeds (n + 1) ys 0
 opened_on v w n xs ys b is did more = did ∙ ap (λ (u : Deeds). after_open u (length u.opened) b) is
     ∙ ap (λ (k : ℕ). after_open (opener_deeds n xs 0) k b) (length_below n)
-    ∙ (λ i. record { role = Opener; opened = below (sym (add-one n) i); counted = []; handed = sym more i; splits = 0; joins = 0 })
+    ∙ (λ i. record { kind = Opener; opened = below (sym (add-one n) i); counted = []; handed = sym more i; splits = 0; joins = 0 })
 
 pub distinct_on : (n : ℕ) (xs ys : List ℕ) (b : Bool) → AreDistinctBelow n xs → ys ≡ handed_more xs n b → AreDistinctBelow (n + 1) ys
 distinct_on n xs ys true d is = record { differ = differ; few = few }
@@ -91,7 +92,7 @@ except_rest xs n differ = let whole : take n xs ++ drop n xs ≡ xs = take-appen
 pub dealt : (v w : Deeds) (pieces at count lent : ℕ) (ready share : List ℕ) → AreDistinctBelow pieces ready → v ≡ opener_deeds pieces (drop at ready) lent → w ≡ after_split share v
     → share ≡ take count (drop at ready) → w ≡ opener_deeds pieces (drop (at + count) ready) (lent + 1)
 dealt v w pieces at count lent ready share d is did cut = did ∙ ap (after_split share) is
-    ∙ (λ i. record { role = Opener; opened = below pieces; counted = []; handed = rest_is i; splits = lent + 1; joins = 0 })
+    ∙ (λ i. record { kind = Opener; opened = below pieces; counted = []; handed = rest_is i; splits = lent + 1; joins = 0 })
   where
     rest_is : except share (drop at ready) ≡ drop (at + count) ready
     rest_is = ap (λ (l : List ℕ). except l (drop at ready)) cut
@@ -100,7 +101,7 @@ dealt v w pieces at count lent ready share d is did cut = did ∙ ap (after_spli
 
 pub makes_new : (countdown : Countdown) (worker : Worker) → worker.pass.countdown ≡ countdown.id → worker.pass.deeds ≡ lent_deeds worker.pieces.items → AreDistinctBelow countdown.agenda.pieces worker.pieces.items → IsUnworked countdown worker
 makes_new countdown worker of is distinct = record {
-  held = record { of = of; lent = ap (λ (v : Deeds). v.role) is; handed = ap (λ (v : Deeds). v.handed) is; distinct = distinct };
+  held = record { of = of; lent = ap (λ (v : Deeds). v.kind) is; handed = ap (λ (v : Deeds). v.handed) is; distinct = distinct };
   none_counted = ap (λ (v : Deeds). v.counted) is;
 }
 
@@ -110,13 +111,13 @@ ordered_snoc pairs (x ∷ xs) share a o = (a.0, ordered_snoc pairs xs share a.1 
 
 pub starts_joined : (pairs : List (ℕ × ℕ)) (pieces left : ℕ) (v : Deeds) → v ≡ opener_deeds pieces [] left → HasJoined pairs pieces left [] v
 starts_joined pairs pieces left v is = subst (HasJoined pairs pieces left []) (sym is)
-    (record { role = refl; opened = refl; splits = omega arith; handed = λ p. refl; counted = λ q h t. absurd (omega arith); ordered = tt })
+    (record { kind = refl; opened = refl; splits = omega arith; handed = λ p. refl; counted = λ q h t. absurd (omega arith); ordered = tt })
 
 -- one pass more was joined
 pub joined_on : (countdown : Countdown) (pieces left : ℕ) (shares : List (List ℕ)) (v w : Deeds) (worker : Worker) → HasJoined (pairs_of countdown.agenda) pieces (left + 1) shares v → IsWorkedOff countdown worker
     → w ≡ after_join v worker.pass.deeds → HasJoined (pairs_of countdown.agenda) pieces left (shares ++ worker.pieces.items ∷ []) w
 joined_on countdown pieces left shares v w worker j d is = subst (HasJoined (pairs_of countdown.agenda) pieces left (shares ++ worker.pieces.items ∷ [])) (sym is) (record {
-  role = j.role;
+  kind = j.kind;
   opened = j.opened;
   splits = let s = j.splits in omega arith;
   handed = λ p. let a = times_append p v.handed worker.pass.deeds.handed in let b = j.handed p in let c = ap (times_in p) d.held.handed in let e = over_snoc (λ (l : List ℕ). times_in p l) shares worker.pieces.items in omega arith;
@@ -155,7 +156,7 @@ module _ (pairs : List (ℕ × ℕ)) (n : ℕ) (wide : AreBelow n pairs) (shares
   none_beyond p far = dite (ℕ_discrete (times_in p v.handed) 0) (λ z. z)
       (λ ne. let r = all.due p (omega arith) in let o = ap (times_in p) j.opened in let b = below_none n p far in let m = r.0 in absurd (omega arith))
 
-  pub each_once : (p : ℕ) → sum_over (λ share. times_in p share) shares ≡ one_if (nat_lt p n)
+  pub each_once : (p : ℕ) → times_in_all p shares ≡ one_if (nat_lt p n)
   each_once p = let s = j.handed p in let o = all.once p in dite (native.Mathlib.Decide.dec_le n p)
       (λ far. let z = none_beyond p far in let t = ap one_if (le-ltb p n far) in omega arith)
       (λ near. let e = each_before n p (omega arith) (omega arith) in let less : p < n = omega arith in let t = ap one_if (lt-ltb p n less) in omega arith)

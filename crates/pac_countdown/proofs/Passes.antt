@@ -7,11 +7,11 @@ use lib.ListN.{get_elem?}
 use Rattle.atomic_table.specs.Table.{Joins, Splits}
 use Rattle.atomic_table.proofs.Lists.{at_set, at_snoc, set_else}
 use Rattle.pac_countdown.specs.Lists.{one_if, same, times_in, pair_times, pairs_to, sum_over, except, keep_if}
-use Rattle.pac_countdown.specs.Counted.{IsCounted, Fits, FitsRole, InOrder, pairs_of, starting, word, is_opener, is_lent, opened_in, handed_in, counted_in, counted_to, openers_in, lent_in}
+use Rattle.pac_countdown.specs.Counted.{IsCounted, Fits, FitsKind, InOrder, pairs_of, starting, word, is_opener, is_lent, opened_in, handed_in, counted_in, counted_to, openers_in, lent_in}
 use Rattle.pac_countdown.specs.Steps.{after_split, lent_deeds, after_join, spent_deeds}
 use Rattle.pac_countdown.specs.declared.deeds.Deeds.{Deeds}
-use Rattle.pac_countdown.specs.declared.deeds.Role.{Role}
-use Rattle.pac_countdown.specs.declared.deeds.Role.TheVariants.{Opener, Lent}
+use Rattle.pac_countdown.specs.declared.deeds.PassKind.{PassKind}
+use Rattle.pac_countdown.specs.declared.deeds.PassKind.TheVariants.{Opener, Lent}
 use Rattle.pac_countdown.specs.declared.deeds.Agenda.{Agenda}
 use Rattle.pac_countdown.proofs.Sums.{same_yes, same_no, times_append, pair_times_append, pairs_to_append, over_set, over_snoc, over_at}
 use Rattle.pac_countdown.proofs.Facts.{word_of_handed, handed_once, all_counted, not_counted, beside}
@@ -37,15 +37,15 @@ in_order_all pairs [] h = tt
 in_order_all pairs (x ∷ xs) h = let one = same_yes x x refl in ((λ y t. h x y (omega arith) (omega arith)), in_order_all pairs xs (λ a b s t. h a b (omega arith) (omega arith)))
 
 -- what a pass that isn't the opener's keeps to, it keeps to whatever was lent
-no_opener_fits : (pairs : List (ℕ × ℕ)) (lent more : ℕ) (v : Deeds) → (is_opener v.role ≡ true → ⊥) → Fits pairs lent v → Fits pairs more v
-no_opener_fits pairs lent more v none_such f = record { earlier = f.earlier; role = f.role; splits = λ e. absurd (none_such e) }
+no_opener_fits : (pairs : List (ℕ × ℕ)) (lent more : ℕ) (v : Deeds) → (is_opener v.kind ≡ true → ⊥) → Fits pairs lent v → Fits pairs more v
+no_opener_fits pairs lent more v none_such f = record { earlier = f.earlier; kind = f.kind; splits = λ e. absurd (none_such e) }
 
-pub splits_off : (agenda : Agenda) (id : ℕ) (v : Deeds) (share : List ℕ) → v.role ≡ Opener
+pub splits_off : (agenda : Agenda) (id : ℕ) (v : Deeds) (share : List ℕ) → v.kind ≡ Opener
     → ((p : ℕ) → times_in p share ≤ 1)
     → ((p : ℕ) → 0 < times_in p share → 0 < times_in p v.handed)
     → ((p t : ℕ) → 0 < times_in p share → pair_times (p, t) v.counted ≡ 0)
     → Splits (IsCounted agenda) id v (after_split share v) (lent_deeds share)
-splits_off agenda id v share role differ among free s r at =
+splits_off agenda id v share kind differ among free s r at =
     record { size = r.size; counts = counts; opened_once = opened_once; pairs_once = r.pairs_once; counted_once = counted_once; handed = handed; one_opener = one_opener; each = each }
   where
     w : Deeds
@@ -54,8 +54,8 @@ splits_off agenda id v share role differ among free s r at =
     new : Deeds
     new = lent_deeds share
 
-    opener : is_opener v.role ≡ true
-    opener = ap is_opener role
+    opener : is_opener v.kind ≡ true
+    opener = ap is_opener kind
 
     sum : (f : Deeds → ℕ) → sum_over f (set s.views id w ++ new ∷ []) + f v ≡ sum_over f s.views + f w + f new
     sum f = let a = over_set f s.views id v w at in let b = over_snoc f (set s.views id w) new in omega arith
@@ -79,24 +79,24 @@ splits_off agenda id v share role differ among free s r at =
     handed p = let a = sum (λ u. times_in p u.handed) in let b = parted p in let c = r.handed p in omega arith
 
     one_opener : openers_in (set s.views id w ++ new ∷ []) ≡ 1
-    one_opener = let a = sum (λ u. one_if (is_opener u.role)) in let c = r.one_opener in omega arith
+    one_opener = let a = sum (λ u. one_if (is_opener u.kind)) in let c = r.one_opener in omega arith
 
     lent_more : lent_in (set s.views id w ++ new ∷ []) ≡ lent_in s.views + 1
-    lent_more = let a = sum (λ u. one_if (is_lent u.role)) in omega arith
+    lent_more = let a = sum (λ u. one_if (is_lent u.kind)) in omega arith
 
     fits : Fits (pairs_of agenda) (lent_in s.views + 1) w
     fits = let f = r.each id v at in record {
       earlier = λ q h. let e = f.earlier q h in let b = parted q.0 in dite (ℕ_discrete (times_in q.0 share) 0)
           (λ z. omega arith)
           (λ ne. let z = free q.0 q.1 (omega arith) in absurd (omega arith));
-      role = subst (λ (ro : Role). FitsRole (pairs_of agenda) ro w) (sym role) (subst (λ (ro : Role). FitsRole (pairs_of agenda) ro v) role f.role);
+      kind = subst (λ (ro : PassKind). FitsKind (pairs_of agenda) ro w) (sym kind) (subst (λ (ro : PassKind). FitsKind (pairs_of agenda) ro v) kind f.kind);
       splits = λ e. let z = f.splits e in omega arith;
     }
 
     new_fits : Fits (pairs_of agenda) (lent_in s.views + 1) new
     new_fits = record {
       earlier = λ q h. absurd (omega arith);
-      role = (refl, in_order_all (pairs_of agenda) share ordered);
+      kind = (refl, in_order_all (pairs_of agenda) share ordered);
       splits = λ e. absurd (bool_no e);
     }
       where
@@ -121,10 +121,10 @@ false_no : false ≡ true → ⊥
 false_no e = cc
 
 spent_fits : (pairs : List (ℕ × ℕ)) (lent : ℕ) → Fits pairs lent spent_deeds
-spent_fits pairs lent = record { earlier = λ q h. absurd (omega arith); role = (refl, refl, refl); splits = λ e. absurd (false_no e) }
+spent_fits pairs lent = record { earlier = λ q h. absurd (omega arith); kind = (refl, refl, refl); splits = λ e. absurd (false_no e) }
 
-pub joins_in : (agenda : Agenda) (id : ℕ) (v : Deeds) (other : ℕ) (w : Deeds) → v.role ≡ Opener → w.role ≡ Lent → Joins (IsCounted agenda) id v other w (after_join v w) spent_deeds
-joins_in agenda id v other w role lent s r at apart at_other =
+pub joins_in : (agenda : Agenda) (id : ℕ) (v : Deeds) (other : ℕ) (w : Deeds) → v.kind ≡ Opener → w.kind ≡ Lent → Joins (IsCounted agenda) id v other w (after_join v w) spent_deeds
+joins_in agenda id v other w kind lent s r at apart at_other =
     record { size = r.size; counts = counts; opened_once = opened_once; pairs_once = r.pairs_once; counted_once = counted_once; handed = handed; one_opener = one_opener; each = each }
   where
     both : Deeds
@@ -133,8 +133,8 @@ joins_in agenda id v other w role lent s r at apart at_other =
     l : List Deeds
     l = set (set s.views id both) other spent_deeds
 
-    opener : is_opener v.role ≡ true
-    opener = ap is_opener role
+    opener : is_opener v.kind ≡ true
+    opener = ap is_opener kind
 
     there : get_elem? s.views other ≡ some w
     there = sym (set_else s.views id other both apart) ∙ at_other
@@ -146,7 +146,7 @@ joins_in agenda id v other w role lent s r at apart at_other =
     fit_other = r.each other w there
 
     none_opened : w.opened ≡ []
-    none_opened = (subst (λ (ro : Role). FitsRole (pairs_of agenda) ro w) lent fit_other.role).0
+    none_opened = (subst (λ (ro : PassKind). FitsKind (pairs_of agenda) ro w) lent fit_other.kind).0
 
     sum : (f : Deeds → ℕ) → sum_over f (set (set s.views id both) other spent_deeds) + f v + f w ≡ sum_over f s.views + f both + f spent_deeds
     sum f = let a = over_set f s.views id v both at in let b = over_set f (set s.views id both) other w spent_deeds at_other in omega arith
@@ -163,21 +163,21 @@ joins_in agenda id v other w role lent s r at apart at_other =
     handed : (p : ℕ) → handed_in p (set (set s.views id both) other spent_deeds) ≡ one_if (eqb (word s.words p) 0)
     handed p = let a = sum (λ u. times_in p u.handed) in let c = r.handed p in let t = times_append p v.handed w.handed in omega arith
 
-    not_opener : one_if (is_opener w.role) ≡ 0
-    not_opener = ap (λ (x : Role). one_if (is_opener x)) lent
+    not_opener : one_if (is_opener w.kind) ≡ 0
+    not_opener = ap (λ (x : PassKind). one_if (is_opener x)) lent
 
     one_opener : openers_in (set (set s.views id both) other spent_deeds) ≡ 1
-    one_opener = let a = sum (λ u. one_if (is_opener u.role)) in let c = r.one_opener in let z = not_opener in omega arith
+    one_opener = let a = sum (λ u. one_if (is_opener u.kind)) in let c = r.one_opener in let z = not_opener in omega arith
 
     fewer : lent_in s.views ≡ lent_in (set (set s.views id both) other spent_deeds) + 1
-    fewer = let a = sum (λ u. one_if (is_lent u.role)) in let z = ap (λ (x : Role). one_if (is_lent x)) lent in omega arith
+    fewer = let a = sum (λ u. one_if (is_lent u.kind)) in let z = ap (λ (x : PassKind). one_if (is_lent x)) lent in omega arith
 
     fits : (k : ℕ) → lent_in s.views ≡ k + 1 → Fits (pairs_of agenda) k both
     fits k e = record {
       earlier = λ q h. let t = pair_times_append q v.counted w.counted in let d = times_append q.0 v.handed w.handed in dite (ℕ_discrete (pair_times q v.counted) 0)
           (λ z. let f = fit_other.earlier q (omega arith) in omega arith)
           (λ ne. let f = fit.earlier q (omega arith) in omega arith);
-      role = subst (λ (ro : Role). FitsRole (pairs_of agenda) ro both) (sym role) (subst (λ (ro : Role). FitsRole (pairs_of agenda) ro v) role fit.role);
+      kind = subst (λ (ro : PassKind). FitsKind (pairs_of agenda) ro both) (sym kind) (subst (λ (ro : PassKind). FitsKind (pairs_of agenda) ro v) kind fit.kind);
       splits = λ o. let z = fit.splits o in omega arith;
     }
 

@@ -9,8 +9,8 @@ use lib.ListN.{get_elem?}
 use Rattle.atomic_table.specs.Table.{State}
 use Rattle.pac_countdown.specs.Lists.{one_if, times_in, pair_times, pairs_to, sum_over, below}
 use Rattle.pac_countdown.specs.declared.deeds.Deeds.{Deeds}
-use Rattle.pac_countdown.specs.declared.deeds.Role.{Role}
-use Rattle.pac_countdown.specs.declared.deeds.Role.TheVariants.{Opener, Lent, Spent}
+use Rattle.pac_countdown.specs.declared.deeds.PassKind.{PassKind}
+use Rattle.pac_countdown.specs.declared.deeds.PassKind.TheVariants.{Opener, Lent, Spent}
 use Rattle.pac_countdown.specs.declared.deeds.Agenda.{Agenda}
 
 -- one moment of a countdown: its words, one of each piece, and its views, which are the deeds of each pass by the pass's number
@@ -22,13 +22,13 @@ abbrev pub pairs_of : Agenda → List (ℕ × ℕ)
 pairs_of agenda = agenda.preds.value
 
 -- it is the opener's
-abbrev pub is_opener : Role → Bool
+abbrev pub is_opener : PassKind → Bool
 is_opener Opener = true
 is_opener Lent = false
 is_opener Spent = false
 
 -- it was split from the opener's, and not joined to it yet
-abbrev pub is_lent : Role → Bool
+abbrev pub is_lent : PassKind → Bool
 is_lent Opener = false
 is_lent Lent = true
 is_lent Spent = false
@@ -51,11 +51,11 @@ counted_to p views = sum_over (λ v. pairs_to p v.counted) views
 
 -- how many passes are the opener's
 abbrev pub openers_in : List Deeds → ℕ
-openers_in views = sum_over (λ v. one_if (is_opener v.role)) views
+openers_in views = sum_over (λ v. one_if (is_opener v.kind)) views
 
 -- how many passes were split and not joined
 abbrev pub lent_in : List Deeds → ℕ
-lent_in views = sum_over (λ v. one_if (is_lent v.role)) views
+lent_in views = sum_over (λ v. one_if (is_lent v.kind)) views
 
 -- what the word of a piece starts as: the number of pairs to it, and 1 for its opening
 abbrev pub starting : List (ℕ × ℕ) → ℕ → ℕ
@@ -70,23 +70,23 @@ abbrev pub InOrder : List (ℕ × ℕ) → List ℕ → Type 0
 InOrder pairs [] = Unit {0}
 InOrder pairs (x ∷ xs) = ((y : ℕ) → 0 < times_in y xs → pair_times (y, x) pairs ≡ 0) × InOrder pairs xs
 
--- what the lists of a pass keep to, by its role
-abbrev pub FitsRole : List (ℕ × ℕ) → Role → Deeds → Type 0
+-- what the lists of a pass keep to, by its kind
+abbrev pub FitsKind : List (ℕ × ℕ) → PassKind → Deeds → Type 0
 -- the opener's has opened the first so many pieces, ascending
-FitsRole pairs Opener v = v.opened ≡ below (length v.opened)
+FitsKind pairs Opener v = v.opened ≡ below (length v.opened)
 -- one that was split has opened none, and no piece that it was handed stands before one that it waits for
-FitsRole pairs Lent v = (v.opened ≡ []) × InOrder pairs v.handed
+FitsKind pairs Lent v = (v.opened ≡ []) × InOrder pairs v.handed
 -- one that was joined has empty lists
-FitsRole pairs Spent v = (v.opened ≡ []) × (v.counted ≡ []) × (v.handed ≡ [])
+FitsKind pairs Spent v = (v.opened ≡ []) × (v.counted ≡ []) × (v.handed ≡ [])
 
 -- what the deeds of one pass keep to, where so many passes are lent
 pub record Fits (pairs : List (ℕ × ℕ)) (lent : ℕ) (v : Deeds) : Type 0 where
   -- a pair is counted only by a pass that was handed its earlier piece
   pub earlier : (q : ℕ × ℕ) → 0 < pair_times q v.counted → 0 < times_in q.0 v.handed
-  -- its lists are as its role asks
-  pub role : FitsRole pairs v.role v
+  -- its lists are as its kind asks
+  pub kind : FitsKind pairs v.kind v
   -- the splits of the opener's pass are its joins and the passes that are lent
-  pub splits : is_opener v.role ≡ true → v.splits ≡ v.joins + lent
+  pub splits : is_opener v.kind ≡ true → v.splits ≡ v.joins + lent
 
 -- the rule
 pub record IsCounted (agenda : Agenda) (s : Moment) : Type 0 where

@@ -1,16 +1,12 @@
--- What a worker does with the pieces that it is handed, and the lists of all workers.
+-- What a worker does with the pieces that it is handed, and the opener around the workers.
 use Rattle.std.specs.Prelude.{◌≡◌, ◌==◌, ◌+◌, ◌<◌, ◌≤◌, ℕ, Bool, true, false, List, [], ◌∷◌, ◌++◌, length, slice_index_or}
-use Rattle.pac_countdown.specs.Lists.{times_in, pair_times, sum_over, below}
+use Rattle.pac_countdown.specs.Lists.{times_in, pair_times, below}
 use Rattle.pac_countdown.specs.Counted.{InOrder, pairs_of}
+use Rattle.pac_countdown.specs.Shares.{times_in_all, AreOrdered}
 use Rattle.pac_countdown.specs.declared.deeds.Deeds.{Deeds}
-use Rattle.pac_countdown.specs.declared.deeds.Role.TheVariants.{Opener, Lent}
+use Rattle.pac_countdown.specs.declared.deeds.PassKind.TheVariants.{Opener, Lent}
 use Rattle.pac_countdown.specs.declared.countdown.Countdown.{Countdown}
 use Rattle.pac_countdown.specs.declared.worker.Worker.{Worker}
-
--- each of these lists is in order
-abbrev pub AreOrdered : List (ℕ × ℕ) → List (List ℕ) → Type 0
-AreOrdered pairs [] = Unit {0}
-AreOrdered pairs (share ∷ shares) = InOrder pairs share × AreOrdered pairs shares
 
 -- a pair before others, if it is so
 abbrev pub cons_if : Bool → ℕ × ℕ → List (ℕ × ℕ) → List (ℕ × ℕ)
@@ -48,7 +44,7 @@ pub record AreDistinctBelow (n : ℕ) (pieces : List ℕ) : Type 0 where
 -- the worker's pass was split, its list is what the pass was handed, and no piece stands in it twice
 pub record IsHeld (countdown : Countdown) (worker : Worker) : Type 0 where
   pub of : worker.pass.countdown ≡ countdown.id
-  pub lent : worker.pass.deeds.role ≡ Lent
+  pub lent : worker.pass.deeds.kind ≡ Lent
   pub handed : worker.pass.deeds.handed ≡ worker.pieces.items
   pub distinct : AreDistinctBelow countdown.agenda.pieces worker.pieces.items
 
@@ -71,13 +67,13 @@ pub record CountsFrom (countdown : Countdown) (start worker : Worker) (laters : 
 
 -- the deeds of the opener's pass once it opened this many pieces, lent so many passes and counted nothing
 abbrev pub opener_deeds : ℕ → List ℕ → ℕ → Deeds
-opener_deeds opened handed splits = record { role = Opener; opened = below opened; counted = []; handed = handed; splits = splits; joins = 0 }
+opener_deeds opened handed splits = record { kind = Opener; opened = below opened; counted = []; handed = handed; splits = splits; joins = 0 }
 
 -- the deeds of the opener's pass once these lists were joined, and so many passes are left
 pub record HasJoined (pairs : List (ℕ × ℕ)) (pieces : ℕ) (left : ℕ) (shares : List (List ℕ)) (v : Deeds) : Type 0 where
-  pub role : v.role ≡ Opener
+  pub kind : v.kind ≡ Opener
   pub opened : v.opened ≡ below pieces
   pub splits : v.splits ≡ v.joins + left
-  pub handed : (p : ℕ) → times_in p v.handed ≡ sum_over (λ share. times_in p share) shares
+  pub handed : (p : ℕ) → times_in p v.handed ≡ times_in_all p shares
   pub counted : (q : ℕ × ℕ) → 0 < times_in q.0 v.handed → 0 < pair_times q pairs → 0 < pair_times q v.counted
   pub ordered : AreOrdered pairs shares

@@ -6,7 +6,7 @@ use Rattle.atomic_table.specs.Table.{Me, Step}
 use Rattle.pac_countdown.specs.Lists.{times_in, pair_times, pairs_to, except}
 use Rattle.pac_countdown.specs.Counted.{Moment, IsCounted, InOrder, pairs_of, starting, word}
 use Rattle.pac_countdown.specs.declared.deeds.Deeds.{Deeds}
-use Rattle.pac_countdown.specs.declared.deeds.Role.TheVariants.{Opener, Lent, Spent}
+use Rattle.pac_countdown.specs.declared.deeds.PassKind.TheVariants.{Opener, Lent, Spent}
 use Rattle.pac_countdown.specs.declared.deeds.Agenda.{Agenda}
 
 -- each pair is an earlier piece and a later one
@@ -15,7 +15,7 @@ AreBelow pieces pairs = (q : ℕ × ℕ) → 0 < pair_times q pairs → (q.0 < q
 
 -- the opener's pass at first
 abbrev pub first_deeds : Deeds
-first_deeds = record { role = Opener; opened = []; counted = []; handed = []; splits = 0; joins = 0 }
+first_deeds = record { kind = Opener; opened = []; counted = []; handed = []; splits = 0; joins = 0 }
 
 -- a list with one more piece, if it was handed out
 abbrev pub handed_more : List ℕ → ℕ → Bool → List ℕ
@@ -24,27 +24,27 @@ handed_more pieces p false = pieces
 
 -- the deeds of a pass once it opened a piece, and was handed it or not
 abbrev pub after_open : Deeds → ℕ → Bool → Deeds
-after_open v p is_handed = record { role = v.role; opened = v.opened ++ p ∷ []; counted = v.counted; handed = handed_more v.handed p is_handed; splits = v.splits; joins = v.joins }
+after_open v p is_handed = record { kind = v.kind; opened = v.opened ++ p ∷ []; counted = v.counted; handed = handed_more v.handed p is_handed; splits = v.splits; joins = v.joins }
 
 -- the deeds of a pass once it counted a pair, and was handed the later piece or not
 abbrev pub after_count : Deeds → ℕ → ℕ → Bool → Deeds
-after_count v from p is_handed = record { role = v.role; opened = v.opened; counted = v.counted ++ (from, p) ∷ []; handed = handed_more v.handed p is_handed; splits = v.splits; joins = v.joins }
+after_count v from p is_handed = record { kind = v.kind; opened = v.opened; counted = v.counted ++ (from, p) ∷ []; handed = handed_more v.handed p is_handed; splits = v.splits; joins = v.joins }
 
 -- the deeds of the opener's pass once it lent a share
 abbrev pub after_split : List ℕ → Deeds → Deeds
-after_split share v = record { role = v.role; opened = v.opened; counted = v.counted; handed = except share v.handed; splits = v.splits + 1; joins = v.joins }
+after_split share v = record { kind = v.kind; opened = v.opened; counted = v.counted; handed = except share v.handed; splits = v.splits + 1; joins = v.joins }
 
 -- the deeds of the pass that the share was lent to
 abbrev pub lent_deeds : List ℕ → Deeds
-lent_deeds share = record { role = Lent; opened = []; counted = []; handed = share; splits = 0; joins = 0 }
+lent_deeds share = record { kind = Lent; opened = []; counted = []; handed = share; splits = 0; joins = 0 }
 
 -- the deeds of the opener's pass once another was joined to it
 abbrev pub after_join : Deeds → Deeds → Deeds
-after_join v w = record { role = v.role; opened = v.opened; counted = v.counted ++ w.counted; handed = v.handed ++ w.handed; splits = v.splits; joins = v.joins + 1 }
+after_join v w = record { kind = v.kind; opened = v.opened; counted = v.counted ++ w.counted; handed = v.handed ++ w.handed; splits = v.splits; joins = v.joins + 1 }
 
 -- the deeds of a pass that was joined
 abbrev pub spent_deeds : Deeds
-spent_deeds = record { role = Spent; opened = []; counted = []; handed = []; splits = 0; joins = 0 }
+spent_deeds = record { kind = Spent; opened = []; counted = []; handed = []; splits = 0; joins = 0 }
 
 -- the pass with this number takes 1 from the word of p, which leaves n, and its deeds, which were v, become w
 pub record TakesOne (agenda : Agenda) (number : ℕ) (p : ℕ) (v : Deeds) (n : ℕ) (w : Deeds) : Type 0 where
@@ -60,7 +60,7 @@ pub record TakesOne (agenda : Agenda) (number : ℕ) (p : ℕ) (v : Deeds) (n : 
   pub holds : IsCounted agenda record { words = slice_set before.words p n; homes = before.homes; views = slice_set before.views number w }
 
 -- the pass with this number, whose deeds are v, finds n as the word of p
-pub record Finds (agenda : Agenda) (number : ℕ) (p : ℕ) (v : Deeds) (n : ℕ) : Type 0 where
+pub record FindsWord (agenda : Agenda) (number : ℕ) (p : ℕ) (v : Deeds) (n : ℕ) : Type 0 where
   -- there is a moment of which it is so
   pub moment : Moment
   -- the rule holds then
@@ -111,13 +111,13 @@ pub record HasLooked (pairs : List (ℕ × ℕ)) (p : ℕ) (v : Deeds) (found : 
   -- it is at most what it started as, less the pass's own opening and counts
   pub most : found + times_in p v.opened + pairs_to p v.counted ≤ starting pairs p
   -- a pass that was split has its pieces in order
-  pub ordered : v.role ≡ Lent → InOrder pairs v.handed
+  pub ordered : v.kind ≡ Lent → InOrder pairs v.handed
   -- no more were joined than were split
-  pub joins : v.role ≡ Opener → v.joins ≤ v.splits
+  pub joins : v.kind ≡ Opener → v.joins ≤ v.splits
   -- where as many were, the opener's pass has all
-  pub all : v.role ≡ Opener → v.splits ≡ v.joins → IsAll pairs v
+  pub all : v.kind ≡ Opener → v.splits ≡ v.joins → IsAll pairs v
 
 -- what a load tells its caller: nothing changes
 abbrev pub HasLoaded : Agenda → ℕ → Step (Unit {0}) → Me (Unit {0}) Deeds → ℕ → Me (Unit {0}) Deeds → Type 0
 HasLoaded agenda number st before found after =
-    (after ≡ before) × HasLooked (pairs_of agenda) st.word before.0 found × Finds agenda number st.word before.0 found
+    (after ≡ before) × HasLooked (pairs_of agenda) st.word before.0 found × FindsWord agenda number st.word before.0 found

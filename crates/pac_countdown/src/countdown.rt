@@ -2,8 +2,8 @@
 ghost use Rattle.std.specs.Prelude.{◌≡◌, ◌==◌, ◌+◌, ◌<◌, ◌≤◌, ◌^◌, ℕ, [], length, IfOk, All, slice_index, vec_len};
 ghost use Rattle.pac_countdown.specs.Lists.{times_in, pair_times, pairs_to};
 ghost use Rattle.pac_countdown.specs.Counted.{IsCounted, pairs_of, starting, RuleSays};
-ghost use Rattle.pac_countdown.specs.Steps.{AreBelow, first_deeds, after_open, after_count, after_split, lent_deeds, after_join, TakesOne, Finds, KeepsBySplit, KeepsByJoin, HasLooked, IsAll};
-ghost use Rattle.pac_countdown.specs.declared.deeds.Role.TheVariants.{Opener, Lent};
+ghost use Rattle.pac_countdown.specs.Steps.{AreBelow, first_deeds, after_open, after_count, after_split, lent_deeds, after_join, TakesOne, FindsWord, KeepsBySplit, KeepsByJoin, HasLooked, IsAll};
+ghost use Rattle.pac_countdown.specs.declared.deeds.PassKind.TheVariants.{Opener, Lent};
 
 use crate::deeds::{Agenda, Deeds};
 use crate::pass::{Handed, Pass};
@@ -100,7 +100,7 @@ impl Countdown {
     fn open_as<C: Caller>(&self, pass: &mut Pass) -> bool
         requires call { (C.agenda ≡ self.now.agenda) × (C.number ≡ pass.old.number) }
         requires of { pass.old.countdown ≡ self.now.id }
-        requires opener { pass.old.deeds.role ≡ Opener }
+        requires opener { pass.old.deeds.kind ≡ Opener }
         requires more { length pass.old.deeds.opened < self.now.agenda.pieces }
         ensures of { (pass.new.countdown ≡ self.now.id) × (pass.new.number ≡ pass.old.number) }
         ensures did { pass.new.deeds ≡ after_open pass.old.deeds (length pass.old.deeds.opened) result }
@@ -118,7 +118,7 @@ impl Countdown {
     /// Opens the next piece, ascending, and answers whether that left 0: then the pass is handed the piece. Takes no memory.
     pub fn open_next(&self, pass: &mut Pass) -> bool
         requires of { pass.old.countdown ≡ self.now.id }
-        requires opener { pass.old.deeds.role ≡ Opener }
+        requires opener { pass.old.deeds.kind ≡ Opener }
         requires more { length pass.old.deeds.opened < self.now.agenda.pieces }
         ensures of { (pass.new.countdown ≡ self.now.id) × (pass.new.number ≡ pass.old.number) }
         ensures did { pass.new.deeds ≡ after_open pass.old.deeds (length pass.old.deeds.opened) result }
@@ -166,7 +166,7 @@ impl Countdown {
         requires piece { piece < self.now.agenda.pieces }
         ensures same { pass.new ≡ pass.old }
         ensures looked { HasLooked (pairs_of self.now.agenda) piece pass.old.deeds result }
-        ensures step { Finds self.now.agenda pass.old.number piece pass.old.deeds result }
+        ensures step { FindsWord self.now.agenda pass.old.number piece pass.old.deeds result }
     {
         self.table
             .shared
@@ -179,7 +179,7 @@ impl Countdown {
         requires piece { piece < self.now.agenda.pieces }
         ensures same { pass.new ≡ pass.old }
         ensures looked { HasLooked (pairs_of self.now.agenda) piece pass.old.deeds result }
-        ensures step { Finds self.now.agenda pass.old.number piece pass.old.deeds result }
+        ensures step { FindsWord self.now.agenda pass.old.number piece pass.old.deeds result }
     {
         self.look_as::<Brand>(pass, piece)
     }
@@ -215,7 +215,7 @@ impl Countdown {
         ensures same { pass.new ≡ pass.old }
         ensures handed { 0 < times_in piece pass.old.deeds.handed → result ≡ 0 }
         ensures most { result + times_in piece pass.old.deeds.opened + pairs_to piece pass.old.deeds.counted ≤ starting (pairs_of self.now.agenda) piece }
-        ensures step { Finds self.now.agenda pass.old.number piece pass.old.deeds result }
+        ensures step { FindsWord self.now.agenda pass.old.number piece pass.old.deeds result }
     {
         self.look(pass, piece)
     }
@@ -223,7 +223,7 @@ impl Countdown {
     fn split_as<C: Lending>(&self, pass: &mut Pass, share: &[u32]) -> Pass
         requires call { C.share ≡ share.now }
         requires of { pass.old.countdown ≡ self.now.id }
-        requires opener { pass.old.deeds.role ≡ Opener }
+        requires opener { pass.old.deeds.kind ≡ Opener }
         requires splits { pass.old.deeds.splits < 4294967295 }
         requires differ { (p : ℕ) → times_in p share.now ≤ 1 }
         requires handed { (p : ℕ) → 0 < times_in p share.now → 0 < times_in p pass.old.deeds.handed }
@@ -250,7 +250,7 @@ impl Countdown {
     /// Lends to a new pass a share of the pieces that the opener's pass was handed, of which it counted no pair. Takes no memory.
     pub fn split(&self, pass: &mut Pass, share: &[u32]) -> Pass
         requires of { pass.old.countdown ≡ self.now.id }
-        requires opener { pass.old.deeds.role ≡ Opener }
+        requires opener { pass.old.deeds.kind ≡ Opener }
         requires splits { pass.old.deeds.splits < 4294967295 }
         requires differ { (p : ℕ) → times_in p share.now ≤ 1 }
         requires handed { (p : ℕ) → 0 < times_in p share.now → 0 < times_in p pass.old.deeds.handed }
@@ -268,8 +268,8 @@ impl Countdown {
     pub fn join(&self, pass: &mut Pass, other: Pass)
         requires of { pass.old.countdown ≡ self.now.id }
         requires of_other { other.countdown ≡ self.now.id }
-        requires opener { pass.old.deeds.role ≡ Opener }
-        requires lent { other.deeds.role ≡ Lent }
+        requires opener { pass.old.deeds.kind ≡ Opener }
+        requires lent { other.deeds.kind ≡ Lent }
         ensures of { (pass.new.countdown ≡ self.now.id) × (pass.new.number ≡ pass.old.number) }
         ensures did { pass.new.deeds ≡ after_join pass.old.deeds other.deeds }
         ensures step { KeepsByJoin self.now.agenda pass.old.number pass.old.deeds other.number other.deeds pass.new.deeds }
@@ -298,7 +298,7 @@ impl Countdown {
     /// Ends the countdown, if each pass that was split is joined. Takes no memory.
     pub fn end(self, pass: Pass) -> Handed
         requires of { pass.countdown ≡ self.id }
-        requires opener { pass.deeds.role ≡ Opener }
+        requires opener { pass.deeds.kind ≡ Opener }
         requires whole { pass.deeds.splits ≡ pass.deeds.joins }
         ensures handed { result ≡ pass.deeds.handed }
         ensures all { IsAll (pairs_of self.agenda) pass.deeds }

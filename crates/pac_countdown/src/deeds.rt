@@ -4,7 +4,7 @@ use std::collections::LinkedList;
 use std::snapshot::Snapshot;
 
 /// What a pass is to its countdown: the opener's, one that was split from it, or one that was joined to it and has nothing left.
-pub enum Role {
+pub enum PassKind {
     Opener,
     Lent,
     Spent,
@@ -13,7 +13,7 @@ pub enum Role {
 /// What a pass has done: the pieces that it opened, the pairs that it counted, the pieces that it was handed, and how many passes
 /// it split off and joined. Only contracts have such values; the program makes none.
 pub struct Deeds {
-    pub role: Role,
+    pub kind: PassKind,
     pub opened: LinkedList<u32>,
     pub counted: LinkedList<(u32, u32)>,
     pub handed: LinkedList<u32>,

@@ -41,6 +41,6 @@ mod worker;
 mod workers;
 
 pub use countdown::{Countdown, CountedRule};
-pub use deeds::{Agenda, Deeds, Role};
+pub use deeds::{Agenda, Deeds, PassKind};
 pub use pass::{Handed, Pass};
 pub use workers::{Share, hand_out};

@@ -1,9 +1,10 @@
 // The hand-out of all pieces of a set.
 ghost use Rattle.std.specs.Prelude.{◌≡◌, ◌==◌, ◌<◌, ◌≤◌, ◌&&◌, ◌+◌, ℕ, List, [], IfOk, OnOk, All, vec_len, length, nat_lt, take, drop};
-ghost use Rattle.pac_countdown.specs.Lists.{times_in, pair_times, sum_over, one_if};
+ghost use Rattle.pac_countdown.specs.Lists.{pair_times, one_if};
 ghost use Rattle.pac_countdown.specs.Counted.{pairs_of};
 ghost use Rattle.pac_countdown.specs.Steps.{first_deeds};
-ghost use Rattle.pac_countdown.specs.HandOut.{IsUnworked, IsWorkedOff, opener_deeds, AreDistinctBelow, AreOrdered, HasJoined};
+ghost use Rattle.pac_countdown.specs.Shares.{times_in_all, AreOrdered};
+ghost use Rattle.pac_countdown.specs.HandOut.{IsUnworked, IsWorkedOff, opener_deeds, AreDistinctBelow, HasJoined};
 
 use crate::countdown::Countdown;
 use crate::laters::laters_of;
@@ -127,7 +128,7 @@ pub fn hand_out<R: Threads + Wait + Sync>(
     requires within { All (λ pair. pair.1 < pieces) preds.now }
     requires once { (q : ℕ × ℕ) → pair_times q preds.now ≤ 1 }
     ensures len { IfOk result (λ shares. vec_len shares ≡ workers) }
-    ensures each { IfOk result (λ shares. (p : ℕ) → sum_over (λ share. times_in p share) shares.items ≡ one_if (nat_lt p pieces)) }
+    ensures each { IfOk result (λ shares. (p : ℕ) → times_in_all p shares.items ≡ one_if (nat_lt p pieces)) }
     ensures order { IfOk result (λ shares. AreOrdered preds.now shares.items) }
 {
     let laters = laters_of(alloc, preds.pairs(), pieces)?;

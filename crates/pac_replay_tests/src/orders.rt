@@ -6,7 +6,7 @@ ghost use Rattle.pac_script.specs.BatchFits.{BatchesFit, BatchesHaveNumbers};
 
 use crate::cores::{ADD, core_of, plan_of, script_of};
 use crate::ends::{are_same_rows, outcome_of};
-use crate::steps::{Handed, TakeAnswer, hand_in, take};
+use crate::steps::{HandInAnswer, TakeAnswer, hand_in, take};
 use pac_bank::BANK;
 use pac_core::{Core, Outcome};
 use pac_ops::{Batch, Note};
@@ -125,8 +125,8 @@ fn finish_one<R: Rows>(core: &mut Core<R>, results: &mut Vec<Done>, random: &mut
         return Turn::GoesOn;
     };
     match hand_in(core, done) {
-        Handed::Kept | Handed::Foreign => Turn::GoesOn,
-        Handed::NoMemory => Turn::Fails,
+        HandInAnswer::Kept | HandInAnswer::Foreign => Turn::GoesOn,
+        HandInAnswer::NoMemory => Turn::Fails,
     }
 }
 

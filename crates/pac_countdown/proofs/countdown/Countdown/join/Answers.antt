@@ -20,7 +20,7 @@ join_seat-requires c =
       ap (λ (x : PassSeen). x.countdown) c.other.view_is ∙ c.requires.of_other ∙ id,
       c.other.invariant.0,
       omega arith,
-      joins_in agenda seat.id seat.me.0 other.id other.me.0 (ap (λ (x : PassSeen). x.deeds.role) pass ∙ c.requires.opener) (ap (λ (x : PassSeen). x.deeds.role) c.other.view_is ∙ c.requires.lent),
+      joins_in agenda seat.id seat.me.0 other.id other.me.0 (ap (λ (x : PassSeen). x.deeds.kind) pass ∙ c.requires.opener) (ap (λ (x : PassSeen). x.deeds.kind) c.other.view_is ∙ c.requires.lent),
     )
 
 pub overflow_add-pass : goal.overflow_add-pass
@@ -40,4 +40,4 @@ returns-clause-step c =
     let pass = c.pass.view_is ∙ c.learn.ensures.same in
     let both : after_join seat.me.0 other.me.0 ≡ c.join_seat.new.seat.me.0 = sym (ap (λ (m : Me (Unit {0}) Deeds). m.0) c.join_seat.ensures.2) in
     subst (λ (x : CountdownSeen × PassSeen × PassSeen × Deeds). KeepsByJoin x.0.agenda x.1.number x.1.deeds x.2.number x.2.deeds x.3) (λ i. (c.self.view_is i, pass i, c.other.view_is i, both i))
-    (joins_in agenda seat.id seat.me.0 other.id other.me.0 (ap (λ (x : PassSeen). x.deeds.role) pass ∙ c.requires.opener) (ap (λ (x : PassSeen). x.deeds.role) c.other.view_is ∙ c.requires.lent))
+    (joins_in agenda seat.id seat.me.0 other.id other.me.0 (ap (λ (x : PassSeen). x.deeds.kind) pass ∙ c.requires.opener) (ap (λ (x : PassSeen). x.deeds.kind) c.other.view_is ∙ c.requires.lent))

@@ -6,7 +6,7 @@ use Rattle.pac_countdown.specs.Counted.{IsCounted}
 use Rattle.pac_countdown.specs.Steps.{HasOpened}
 use Rattle.pac_countdown.specs.Seen.{PassSeen, CountdownSeen}
 use Rattle.pac_countdown.specs.declared.deeds.Deeds.{Deeds}
-use Rattle.pac_countdown.specs.declared.deeds.Role.TheVariants.{Opener}
+use Rattle.pac_countdown.specs.declared.deeds.PassKind.TheVariants.{Opener}
 use Rattle.pac_countdown.specs.declared.deeds.Agenda.{Agenda}
 use Rattle.pac_countdown.proofs.Counts.{opens}
 use Rattle.pac_countdown.proofs.countdown.Countdown.open_as.Goals as goal
@@ -20,7 +20,7 @@ fetch_sub-found-requires g c =
     let countdown = c.self.view_is in
     let is = c.pass.invariant.1 in
     let size = c.self.invariant.0 in
-    let opener : seat.me.0.role ≡ Opener = ap (λ (p : PassSeen). p.deeds.role) pass ∙ c.requires.opener in
+    let opener : seat.me.0.kind ≡ Opener = ap (λ (p : PassSeen). p.deeds.kind) pass ∙ c.requires.opener in
     let more = subst (λ (x : PassSeen × CountdownSeen). length x.0.deeds.opened < x.1.agenda.pieces) (λ i. (sym pass i, sym countdown i)) c.requires.more in
     let me : seat.me ≡ (seat.me.0, []) = λ i. (seat.me.0, c.pass.invariant.0 i) in
     let mine = ap (λ (p : CountdownSeen). p.agenda) countdown ∙ sym c.requires.call.0 in

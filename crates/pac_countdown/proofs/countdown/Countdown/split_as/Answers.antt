@@ -17,7 +17,7 @@ split_seat-seat-requires g c =
     let countdown = c.self.view_is in
     let size = c.self.invariant.0 in
     let positive = c.self.invariant.1 in
-    let opener = ap (λ (x : PassSeen). x.deeds.role) pass ∙ c.requires.opener in
+    let opener = ap (λ (x : PassSeen). x.deeds.kind) pass ∙ c.requires.opener in
     let handed = subst (λ (x : PassSeen). (p : ℕ) → 0 < times_in p c.args.share.now → 0 < times_in p x.deeds.handed) (sym pass) c.requires.handed in
     let uncounted = subst (λ (x : PassSeen). (p t : ℕ) → 0 < times_in p c.args.share.now → pair_times (p, t) x.deeds.counted ≡ 0) (sym pass) c.requires.uncounted in (
       ap (λ (x : PassSeen). x.countdown) pass ∙ c.requires.of ∙ sym (ap (λ (x : CountdownSeen). x.id) countdown),
@@ -33,7 +33,7 @@ returns-clause-step g c =
     let pass = c.pass.view_is in
     let share = c.args.share.now in
     let split = c.split_seat-seat in
-    let opener = ap (λ (x : PassSeen). x.deeds.role) pass ∙ c.requires.opener in
+    let opener = ap (λ (x : PassSeen). x.deeds.kind) pass ∙ c.requires.opener in
     let handed = subst (λ (x : PassSeen). (p : ℕ) → 0 < times_in p share → 0 < times_in p x.deeds.handed) (sym pass) c.requires.handed in
     let uncounted = subst (λ (x : PassSeen). (p t : ℕ) → 0 < times_in p share → pair_times (p, t) x.deeds.counted ≡ 0) (sym pass) c.requires.uncounted in
     let left : after_split share seat.me.0 ≡ split.new.seat.me.0 = ap (λ (l : List ℕ). after_split l seat.me.0) (sym c.requires.call) ∙ sym (ap (λ (m : Me (Unit {0}) Deeds). m.0) split.ensures.2) in
