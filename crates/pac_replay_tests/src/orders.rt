@@ -6,7 +6,7 @@ ghost use Rattle.pac_script.specs.BatchFits.{BatchesFit, BatchesHaveNumbers};
 
 use crate::cores::{ADD, core_of, plan_of, script_of};
 use crate::ends::{are_same_rows, outcome_of};
-use crate::steps::{Handed, TakeAnswer, hand_in, take};
+use crate::steps::{HandInAnswer, TakeAnswer, hand_in, take};
 use pac_core::{Core, Outcome};
 use pac_ops::{Batch, Note};
 use pac_piece::Done;
@@ -130,9 +130,9 @@ fn finish_one<R: Rows>(
         return Turn::GoesOn;
     };
     match hand_in(core, done) {
-        Handed::Foreign if are_own => Turn::Fails,
-        Handed::Kept | Handed::Foreign => Turn::GoesOn,
-        Handed::NoMemory => Turn::Fails,
+        HandInAnswer::Foreign if are_own => Turn::Fails,
+        HandInAnswer::Kept | HandInAnswer::Foreign => Turn::GoesOn,
+        HandInAnswer::NoMemory => Turn::Fails,
     }
 }
 

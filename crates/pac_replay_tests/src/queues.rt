@@ -1,7 +1,7 @@
 // The pairs that a core keeps, and the least note of several.
 use crate::cores::{ADD, script_core};
 use crate::ends::drained;
-use crate::steps::{Handed, TakeAnswer, hand_in, take};
+use crate::steps::{HandInAnswer, TakeAnswer, hand_in, take};
 use pac_core::Core;
 use pac_ops::{Note, PieceId, Reason};
 use pac_piece::Done;
@@ -14,7 +14,7 @@ fn finish_next<R: Rows>(alloc: Global, core: &mut Core<R>, results: &mut Vec<Don
         return None;
     };
     let done = results.pop()?;
-    if hand_in(core, done) == Handed::Kept {
+    if hand_in(core, done) == HandInAnswer::Kept {
         Some(piece.block)
     } else {
         None

@@ -42,7 +42,7 @@ pub(crate) enum TakeAnswer {
 
 /// What became of a result.
 #[derive(Clone, Copy, Debug, PartialEq, Eq)]
-pub(crate) enum Handed {
+pub(crate) enum HandInAnswer {
     Kept,
     Foreign,
     NoMemory,
@@ -78,11 +78,11 @@ pub(crate) fn take<R: Rows>(
 }
 
 /// Hands a result in.
-pub(crate) fn hand_in<R: Rows>(core: &mut Core<R>, done: Done) -> Handed {
+pub(crate) fn hand_in<R: Rows>(core: &mut Core<R>, done: Done) -> HandInAnswer {
     match core.finish(done) {
-        Finish::Kept => Handed::Kept,
-        Finish::Foreign(_) => Handed::Foreign,
-        Finish::NoMemory(_) => Handed::NoMemory,
+        Finish::Kept => HandInAnswer::Kept,
+        Finish::Foreign(_) => HandInAnswer::Foreign,
+        Finish::NoMemory(_) => HandInAnswer::NoMemory,
     }
 }
 
@@ -110,7 +110,7 @@ fn is_handed<R: Rows>(
     results: &mut Vec<Done>,
     txn: u64,
     block: u16,
-    handed: Handed,
+    handed: HandInAnswer,
 ) -> bool {
     match result_of(results, txn, block) {
         Some(done) => hand_in(core, done) == handed,
@@ -154,8 +154,14 @@ fn goes<R: Rows>(
             == TakeAnswer::Ran(PieceId { txn, block }),
         CoreStep::Waits => take(alloc, core, results) == TakeAnswer::NotReady,
         CoreStep::Ends => take(alloc, core, results) == TakeAnswer::Done,
-        CoreStep::Finishes(txn, block) => is_handed(core, results, txn, block, Handed::Kept),
-        CoreStep::Refuses(txn, block) => is_handed(core, results, txn, block, Handed::Foreign),
+        CoreStep::Finishes(txn, block) => is_handed(core, results, txn, block, HandInAnswer::Kept),
+        CoreStep::Refuses(txn, block) => is_handed(
+            core,
+            results,
+            txn,
+            block,
+            HandInAnswer::Foreign,
+        ),
         CoreStep::GiveBack(txn, block) => is_given_back(core, results, txn, block),
         CoreStep::Close => is_closed(core),
         CoreStep::Left(count) => core.unfinished() == count,

@@ -1,1 +1,2 @@
 mod OneTable
+pub mod PairsOnce

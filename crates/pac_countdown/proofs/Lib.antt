@@ -1,0 +1,9 @@
+pub mod Sums
+pub mod Facts
+pub mod Counts
+pub mod Passes
+pub mod Ends
+pub mod Starts
+pub mod Hands
+pub mod PairedLists
+pub mod Outs
