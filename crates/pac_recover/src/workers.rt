@@ -11,13 +11,13 @@ ghost use Rattle.pac_recover.specs.Outcomes.{FitsReplayed, executed_to, outcome_
 
 use crate::Execution;
 use pac_base::NoMemory;
+use pac_core::{Executed, execute};
 use pac_global::catalogue_plan;
 use pac_ops::Batches;
 use pac_outside::Gate;
 use pac_plan::Plan;
 use pac_tables::{JoinedRows, TableRows};
 use pac_types::Catalogue;
-use pac_core::{Executed, execute};
 use std::alloc::Global;
 use std::sync::Wait;
 use std::thread::Threads;

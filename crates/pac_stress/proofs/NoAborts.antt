@@ -246,24 +246,24 @@ module _ (src amount : ℕ) (few : amount ≤ 1000) where
   transfer_block_ends k n s d low h0 h1 h2 small =
       after_both P k 1 4 0 (Bin Sub (Var 4) (Var 1)) _ n s (pos src) h0 (λ v. get-insert nat_cmp_total s.env 4 (Int v) 0 ∙ h0) small
       (λ v h. less_small (insert s.env 4 (Int v)) (Var 4) (Var 1) k amount v
-          (of_var (insert s.env 4 (Int v)) 4 (Int v) (get-insert nat_cmp_total s.env 4 (Int v) 4)) (of_var (insert s.env 4 (Int v)) 1 (number amount) (get-insert nat_cmp_total s.env 4 (Int v) 1 ∙ h1)) few (omega (arith, low)) h)
+      (of_var (insert s.env 4 (Int v)) 4 (Int v) (get-insert nat_cmp_total s.env 4 (Int v) 4)) (of_var (insert s.env 4 (Int v)) 1 (number amount) (get-insert nat_cmp_total s.env 4 (Int v) 1 ∙ h1)) few (omega (arith, low)) h)
       (λ v4 w4 in4 small4 m4.
-          let env4 : Values = insert s.env 4 (Int v4) in
-          let at4 : State = record { env = env4; tables = insert s.tables (1, IntKey (pos src)) (Int w4 ∷ []) } in
-          let g0 : get env4 0 ≡ Some (number src) = get-insert nat_cmp_total s.env 4 (Int v4) 0 ∙ h0 in
-          let g1 : get env4 1 ≡ Some (number amount) = get-insert nat_cmp_total s.env 4 (Int v4) 1 ∙ h1 in
-          let g2 : get env4 2 ≡ Some (Int d) = get-insert nat_cmp_total s.env 4 (Int v4) 2 ∙ h2 in
-          after_both P (k + 1) 1 5 2 (Bin Add (Var 5) (Var 1)) _ m4 at4 d g2 (λ v. get-insert nat_cmp_total env4 5 (Int v) 2 ∙ g2) small4
-          (λ v h. sum_small (insert env4 5 (Int v)) (Var 5) (Var 1) (k + 1) amount v
-              (of_var (insert env4 5 (Int v)) 5 (Int v) (get-insert nat_cmp_total env4 5 (Int v) 5)) (of_var (insert env4 5 (Int v)) 1 (number amount) (get-insert nat_cmp_total env4 5 (Int v) 1 ∙ g1)) few (omega (arith, low)) h)
-          (λ v5 w5 in5 small5 m5.
-              let env5 : Values = insert env4 5 (Int v5) in
-              let at5 : State = record { env = env5; tables = insert at4.tables (1, IntKey d) (Int w5 ∷ []) } in
-              let f0 : get env5 0 ≡ Some (number src) = get-insert nat_cmp_total env4 5 (Int v5) 0 ∙ g0 in
-              after_both P (k + 1 + 1) 2 6 0 (Bin Add (Var 6) (Lit (number 1))) End m5 at5 (pos src) f0 (λ v. get-insert nat_cmp_total env5 6 (Int v) 0 ∙ f0) small5
-              (λ v h. raised_small (insert env5 6 (Int v)) (Var 6) (Lit (number 1)) (k + 1 + 1) v (pos 1)
-                  (of_var (insert env5 6 (Int v)) 6 (Int v) (get-insert nat_cmp_total env5 6 (Int v) 6)) (of_lit (insert env5 6 (Int v)) (number 1)) one_within (omega (arith, low)) h)
-              (λ v6 w6 in6 small6 m6. at_end P m6 _ small6)))
+      let env4 : Values = insert s.env 4 (Int v4) in
+      let at4 : State = record { env = env4; tables = insert s.tables (1, IntKey (pos src)) (Int w4 ∷ []) } in
+      let g0 : get env4 0 ≡ Some (number src) = get-insert nat_cmp_total s.env 4 (Int v4) 0 ∙ h0 in
+      let g1 : get env4 1 ≡ Some (number amount) = get-insert nat_cmp_total s.env 4 (Int v4) 1 ∙ h1 in
+      let g2 : get env4 2 ≡ Some (Int d) = get-insert nat_cmp_total s.env 4 (Int v4) 2 ∙ h2 in
+      after_both P (k + 1) 1 5 2 (Bin Add (Var 5) (Var 1)) _ m4 at4 d g2 (λ v. get-insert nat_cmp_total env4 5 (Int v) 2 ∙ g2) small4
+      (λ v h. sum_small (insert env4 5 (Int v)) (Var 5) (Var 1) (k + 1) amount v
+      (of_var (insert env4 5 (Int v)) 5 (Int v) (get-insert nat_cmp_total env4 5 (Int v) 5)) (of_var (insert env4 5 (Int v)) 1 (number amount) (get-insert nat_cmp_total env4 5 (Int v) 1 ∙ g1)) few (omega (arith, low)) h)
+      (λ v5 w5 in5 small5 m5.
+      let env5 : Values = insert env4 5 (Int v5) in
+      let at5 : State = record { env = env5; tables = insert at4.tables (1, IntKey d) (Int w5 ∷ []) } in
+      let f0 : get env5 0 ≡ Some (number src) = get-insert nat_cmp_total env4 5 (Int v5) 0 ∙ g0 in
+      after_both P (k + 1 + 1) 2 6 0 (Bin Add (Var 6) (Lit (number 1))) End m5 at5 (pos src) f0 (λ v. get-insert nat_cmp_total env5 6 (Int v) 0 ∙ f0) small5
+      (λ v h. raised_small (insert env5 6 (Int v)) (Var 6) (Lit (number 1)) (k + 1 + 1) v (pos 1)
+      (of_var (insert env5 6 (Int v)) 6 (Int v) (get-insert nat_cmp_total env5 6 (Int v) 6)) (of_lit (insert env5 6 (Int v)) (number 1)) one_within (omega (arith, low)) h)
+      (λ v6 w6 in6 small6 m6. at_end P m6 _ small6)))
     where
       P : State → Type 0
       P = SmallAt (k + 1 + 1 + 1)
@@ -280,12 +280,12 @@ module _ (src amount : ℕ) (few : amount ≤ 1000) where
       let g2 : get mid.env 2 ≡ Some (Int old.0) = get-insert nat_cmp_total s.env 2 (Int old.0) 2 in
       let b : Bool = not (int_eq old.0 (pos 0)) in
       let test : value (Bin Ne (Var 2) (Lit (number 0))) mid.env ≡ Ok (Truth b) =
-          of_bin mid.env Ne (Var 2) (Lit (number 0)) (Int old.0) (number 0) (Truth b) (of_var mid.env 2 (Int old.0) g2) (of_lit mid.env (number 0)) refl refl in
+      of_bin mid.env Ne (Var 2) (Lit (number 0)) (Int old.0) (number 0) (Truth b) (of_var mid.env 2 (Int old.0) g2) (of_lit mid.env (number 0)) refl refl in
       after_op P (kind.Read 2 0 (Var 0) 0 (number 0)) (Branch 3 (Bin Ne (Var 2) (Lit (number 0))) transfer_block End End) 0 s mid (is_read 2 0 0 s (pos src) old.0 h0 old.1)
       (after_branch P P 3 (Bin Ne (Var 2) (Lit (number 0))) transfer_block End End 1 mid b test
-          (λ m. transfer_block_ends k m (define 3 (Truth b) mid) old.0 low (get-insert nat_cmp_total mid.env 3 (Truth b) 0 ∙ g0) (get-insert nat_cmp_total mid.env 3 (Truth b) 1 ∙ g1) (get-insert nat_cmp_total mid.env 3 (Truth b) 2 ∙ g2) small)
-          (λ m. at_end P m _ (more_small (k + 1 + 1) tables (more_small (k + 1) tables (more_small k tables small))))
-          (λ t h m. at_end P m t h))
+      (λ m. transfer_block_ends k m (define 3 (Truth b) mid) old.0 low (get-insert nat_cmp_total mid.env 3 (Truth b) 0 ∙ g0) (get-insert nat_cmp_total mid.env 3 (Truth b) 1 ∙ g1) (get-insert nat_cmp_total mid.env 3 (Truth b) 2 ∙ g2) small)
+      (λ m. at_end P m _ (more_small (k + 1 + 1) tables (more_small (k + 1) tables (more_small k tables small))))
+      (λ t h m. at_end P m t h))
     where
       P : State → Type 0
       P = SmallAt (k + 1 + 1 + 1)
@@ -301,37 +301,37 @@ module _ (src amount : ℕ) (few : amount ≤ 1000) where
         let h2 : get s.env 2 ≡ Some (number nation) = get-insert nat_cmp_total none1 2 (number nation) 2 in
         after_both P k 1 3 0 (Bin Add (Var 3) (Var 1)) (Branch 4 test_of saving_block End stats_steps) 0 s (pos src) h0 (λ v. get-insert nat_cmp_total s.env 3 (Int v) 0 ∙ h0) small
         (λ v h. sum_small (insert s.env 3 (Int v)) (Var 3) (Var 1) k amount v
-            (of_var (insert s.env 3 (Int v)) 3 (Int v) (get-insert nat_cmp_total s.env 3 (Int v) 3)) (of_var (insert s.env 3 (Int v)) 1 (number amount) (get-insert nat_cmp_total s.env 3 (Int v) 1 ∙ h1)) few (omega (arith, low)) h)
+        (of_var (insert s.env 3 (Int v)) 3 (Int v) (get-insert nat_cmp_total s.env 3 (Int v) 3)) (of_var (insert s.env 3 (Int v)) 1 (number amount) (get-insert nat_cmp_total s.env 3 (Int v) 1 ∙ h1)) few (omega (arith, low)) h)
         (λ v3 w3 in3 small3 m3.
-            let env3 : Values = insert s.env 3 (Int v3) in
-            let at3 : State = record { env = env3; tables = insert tables (1, IntKey (pos src)) (Int w3 ∷ []) } in
-            let g0 : get env3 0 ≡ Some (number src) = get-insert nat_cmp_total s.env 3 (Int v3) 0 ∙ h0 in
-            let g1 : get env3 1 ≡ Some (number amount) = get-insert nat_cmp_total s.env 3 (Int v3) 1 ∙ h1 in
-            let g2 : get env3 2 ≡ Some (number nation) = get-insert nat_cmp_total s.env 3 (Int v3) 2 ∙ h2 in
-            let g3 : get env3 3 ≡ Some (Int v3) = get-insert nat_cmp_total s.env 3 (Int v3) 3 in
-            let sum = sum_small env3 (Var 3) (Var 1) k amount v3 (of_var env3 3 (Int v3) g3) (of_var env3 1 (number amount) g1) few (omega (arith, low)) in3 in
-            let b : Bool = is_gt (int_cmp sum.0 (pos 10000)) in
-            let test : value test_of env3 ≡ Ok (Truth b) = of_bin env3 Gt (Bin Add (Var 3) (Var 1)) (Lit (number 10000)) (Int sum.0) (number 10000) (Truth b) sum.1 (of_lit env3 (number 10000)) refl refl in
-            let env4 : Values = insert env3 4 (Truth b) in
-            let f0 : get env4 0 ≡ Some (number src) = get-insert nat_cmp_total env3 4 (Truth b) 0 ∙ g0 in
-            let f2 : get env4 2 ≡ Some (number nation) = get-insert nat_cmp_total env3 4 (Truth b) 2 ∙ g2 in
-            let f3 : get env4 3 ≡ Some (Int v3) = get-insert nat_cmp_total env3 4 (Truth b) 3 ∙ g3 in
-            let part : Within (k * 1000) (int_div v3 (pos 50)) = fiftieth v3 (k * 1000) in3 in
-            let part_within : Within 300000000 (int_div v3 (pos 50)) = (omega (arith, ints, part.0, low), omega (arith, ints, part.1, low)) in
-            after_branch P Q 4 test_of saving_block End stats_steps m3 at3 b test
-            (λ m. after_both Q (k + 1) 2 5 0 (Bin Add (Var 5) (Bin Div (Var 3) (Lit (number 50)))) End m (define 4 (Truth b) at3) (pos src) f0 (λ v. get-insert nat_cmp_total env4 5 (Int v) 0 ∙ f0) small3
-                (λ v h.
-                    let env5 : Values = insert env4 5 (Int v) in
-                    let quotient_is : value (Bin Div (Var 3) (Lit (number 50))) env5 ≡ Ok (Int (int_div v3 (pos 50))) =
-                        of_bin env5 Div (Var 3) (Lit (number 50)) (Int v3) (number 50) (Int (int_div v3 (pos 50))) (of_var env5 3 (Int v3) (get-insert nat_cmp_total env4 5 (Int v) 3 ∙ f3)) (of_lit env5 (number 50)) refl
-                        (checked_small (int_div v3 (pos 50)) (k * 1000) part (omega (arith, low))) in
-                    raised_small env5 (Var 5) (Bin Div (Var 3) (Lit (number 50))) (k + 1) v (int_div v3 (pos 50)) (of_var env5 5 (Int v) (get-insert nat_cmp_total env4 5 (Int v) 5)) quotient_is part_within (omega (arith, low)) h)
-                (λ v5 w5 in5 small5 m5. at_end Q m5 _ (small5, get-insert nat_cmp_total env4 5 (Int v5) 2 ∙ f2)))
-            (λ m. at_end Q m _ (more_small (k + 1) at3.tables small3, f2))
-            (λ t q m. after_both P (k + 1 + 1) 3 6 2 (Bin Add (Var 6) (Lit (number 1))) End m t (pos nation) q.1 (λ v. get-insert nat_cmp_total t.env 6 (Int v) 2 ∙ q.1) q.0
-                (λ v h. raised_small (insert t.env 6 (Int v)) (Var 6) (Lit (number 1)) (k + 1 + 1) v (pos 1)
-                    (of_var (insert t.env 6 (Int v)) 6 (Int v) (get-insert nat_cmp_total t.env 6 (Int v) 6)) (of_lit (insert t.env 6 (Int v)) (number 1)) one_within (omega (arith, low)) h)
-                (λ v6 w6 in6 small6 m6. at_end P m6 _ small6)))
+        let env3 : Values = insert s.env 3 (Int v3) in
+        let at3 : State = record { env = env3; tables = insert tables (1, IntKey (pos src)) (Int w3 ∷ []) } in
+        let g0 : get env3 0 ≡ Some (number src) = get-insert nat_cmp_total s.env 3 (Int v3) 0 ∙ h0 in
+        let g1 : get env3 1 ≡ Some (number amount) = get-insert nat_cmp_total s.env 3 (Int v3) 1 ∙ h1 in
+        let g2 : get env3 2 ≡ Some (number nation) = get-insert nat_cmp_total s.env 3 (Int v3) 2 ∙ h2 in
+        let g3 : get env3 3 ≡ Some (Int v3) = get-insert nat_cmp_total s.env 3 (Int v3) 3 in
+        let sum = sum_small env3 (Var 3) (Var 1) k amount v3 (of_var env3 3 (Int v3) g3) (of_var env3 1 (number amount) g1) few (omega (arith, low)) in3 in
+        let b : Bool = is_gt (int_cmp sum.0 (pos 10000)) in
+        let test : value test_of env3 ≡ Ok (Truth b) = of_bin env3 Gt (Bin Add (Var 3) (Var 1)) (Lit (number 10000)) (Int sum.0) (number 10000) (Truth b) sum.1 (of_lit env3 (number 10000)) refl refl in
+        let env4 : Values = insert env3 4 (Truth b) in
+        let f0 : get env4 0 ≡ Some (number src) = get-insert nat_cmp_total env3 4 (Truth b) 0 ∙ g0 in
+        let f2 : get env4 2 ≡ Some (number nation) = get-insert nat_cmp_total env3 4 (Truth b) 2 ∙ g2 in
+        let f3 : get env4 3 ≡ Some (Int v3) = get-insert nat_cmp_total env3 4 (Truth b) 3 ∙ g3 in
+        let part : Within (k * 1000) (int_div v3 (pos 50)) = fiftieth v3 (k * 1000) in3 in
+        let part_within : Within 300000000 (int_div v3 (pos 50)) = (omega (arith, ints, part.0, low), omega (arith, ints, part.1, low)) in
+        after_branch P Q 4 test_of saving_block End stats_steps m3 at3 b test
+        (λ m. after_both Q (k + 1) 2 5 0 (Bin Add (Var 5) (Bin Div (Var 3) (Lit (number 50)))) End m (define 4 (Truth b) at3) (pos src) f0 (λ v. get-insert nat_cmp_total env4 5 (Int v) 0 ∙ f0) small3
+        (λ v h.
+        let env5 : Values = insert env4 5 (Int v) in
+        let quotient_is : value (Bin Div (Var 3) (Lit (number 50))) env5 ≡ Ok (Int (int_div v3 (pos 50))) =
+        of_bin env5 Div (Var 3) (Lit (number 50)) (Int v3) (number 50) (Int (int_div v3 (pos 50))) (of_var env5 3 (Int v3) (get-insert nat_cmp_total env4 5 (Int v) 3 ∙ f3)) (of_lit env5 (number 50)) refl
+        (checked_small (int_div v3 (pos 50)) (k * 1000) part (omega (arith, low))) in
+        raised_small env5 (Var 5) (Bin Div (Var 3) (Lit (number 50))) (k + 1) v (int_div v3 (pos 50)) (of_var env5 5 (Int v) (get-insert nat_cmp_total env4 5 (Int v) 5)) quotient_is part_within (omega (arith, low)) h)
+        (λ v5 w5 in5 small5 m5. at_end Q m5 _ (small5, get-insert nat_cmp_total env4 5 (Int v5) 2 ∙ f2)))
+        (λ m. at_end Q m _ (more_small (k + 1) at3.tables small3, f2))
+        (λ t q m. after_both P (k + 1 + 1) 3 6 2 (Bin Add (Var 6) (Lit (number 1))) End m t (pos nation) q.1 (λ v. get-insert nat_cmp_total t.env 6 (Int v) 2 ∙ q.1) q.0
+        (λ v h. raised_small (insert t.env 6 (Int v)) (Var 6) (Lit (number 1)) (k + 1 + 1) v (pos 1)
+        (of_var (insert t.env 6 (Int v)) 6 (Int v) (get-insert nat_cmp_total t.env 6 (Int v) 6)) (of_lit (insert t.env 6 (Int v)) (number 1)) one_within (omega (arith, low)) h)
+        (λ v6 w6 in6 small6 m6. at_end P m6 _ small6)))
       where
         P : State → Type 0
         P = SmallAt (k + 1 + 1 + 1)
@@ -390,4 +390,3 @@ never-aborts count note few (catalogue, is, aborts) =
 -- where one aborts there are more
 pub more-than-few : (count : ℕ) (note : Note) → AbortsStress count note → 100000 < count
 more-than-few count note aborts = ⊎_elim (λ few. absurd (never-aborts count note few.1 aborts)) (λ more. more.1) (leb_tells count 100000)
-

@@ -5,8 +5,8 @@ ghost use Rattle.pac_types.specs.OperationLimits.{HasFewOperations};
 ghost use Rattle.pac_script.specs.BankText.{bank_text};
 ghost use Rattle.pac_stress.specs.BankCatalogue.{bank_catalogue};
 
-use pac_script::bank_text;
 use pac_base::{NoMemory, Refusal};
+use pac_script::bank_text;
 use pac_types::{Catalogue, read_catalogue};
 use std::alloc::Global;
 

@@ -7,13 +7,13 @@ ghost use Rattle.pac_recover.specs.Gates.{RunOn, txns_in};
 ghost use Rattle.pac_recover.specs.Logs.{FitBatches};
 ghost use Rattle.pac_stress.specs.Stressed.{Finishes};
 
+use pac_core::{Executed, execute};
 use pac_global::catalogue_plan;
 use pac_ops::Batches;
 use pac_outside::Gate;
 use pac_serial::{AllError, no_rows};
 use pac_tables::HashedRows;
 use pac_types::Catalogue;
-use pac_core::{Executed, execute};
 use std::alloc::Global;
 use std::sync::Wait;
 use std::thread::Threads;
