@@ -7,7 +7,7 @@ use lib.ListN.{get_elem?}
 use Rattle.atomic_table.specs.Table.{State, step, keeps, stepped, Allows}
 use Rattle.atomic_table.proofs.Lists.{at_set}
 use Rattle.pac_countdown.specs.Lists.{one_if, same, same_pair, times_in, pair_times, pairs_to, sum_over, below}
-use Rattle.pac_countdown.specs.Counted.{IsCounted, Fits, FitsKind, InOrder, pairs_of, starting, word, is_opener, is_lent, opened_in, handed_in, counted_in, counted_to, openers_in, lent_in}
+use Rattle.pac_countdown.specs.Counted.{IsCounted, Fits, FitsKind, InOrder, agenda_pairs, starting, word, is_opener, is_lent, opened_in, handed_in, counted_in, counted_to, openers_in, lent_in}
 use Rattle.pac_countdown.specs.Steps.{handed_more, after_open, HasOpened, TakesOne, after_count, HasCounted}
 use Rattle.pac_countdown.specs.declared.deeds.Deeds.{Deeds}
 use Rattle.pac_countdown.specs.declared.deeds.PassKind.{PassKind}
@@ -38,14 +38,14 @@ module _ (agenda : Agenda) (s : State (Unit {0}) Deeds) (r : IsCounted agenda s)
 
   pub takes_one : ((q : ℕ) → times_in q w.opened + pairs_to q w.counted ≡ times_in q v.opened + pairs_to q v.counted + same q p)
       → ((q : ℕ) → opened_in q (set s.views id w) ≤ 1)
-      → ((q : ℕ × ℕ) → counted_in q (set s.views id w) ≤ pair_times q (pairs_of agenda))
+      → ((q : ℕ × ℕ) → counted_in q (set s.views id w) ≤ pair_times q (agenda_pairs agenda))
       → w.handed ≡ handed_more v.handed p (eqb n 1)
       → w.kind ≡ v.kind
-      → Fits (pairs_of agenda) (lent_in s.views) w
+      → Fits (agenda_pairs agenda) (lent_in s.views) w
       → IsCounted agenda (stepped s p m id [] w keeps)
   takes_one one once pairs_once now kind fits = record { size = length-set s.words p m ∙ r.size; counts = counts; opened_once = once; pairs_once = r.pairs_once; counted_once = pairs_once; handed = handed; one_opener = one_opener; each = each }
     where
-      counts : (q : ℕ) → word (set s.words p m) q + opened_in q (set s.views id w) + counted_to q (set s.views id w) ≡ starting (pairs_of agenda) q
+      counts : (q : ℕ) → word (set s.words p m) q + opened_in q (set s.views id w) + counted_to q (set s.views id w) ≡ starting (agenda_pairs agenda) q
       counts q = let a = others (λ u. times_in q u.opened) in let b = others (λ u. pairs_to q u.counted) in let c = r.counts q in let d = one q in
           dite (ℕ_discrete q p)
           (λ e. let here : word (set s.words p m) q ≡ m = ap (word (set s.words p m)) e ∙ word_here in let before : word s.words q ≡ n = ap (word s.words) e ∙ found in let y = same_yes q p e in omega arith)
@@ -68,9 +68,9 @@ module _ (agenda : Agenda) (s : State (Unit {0}) Deeds) (r : IsCounted agenda s)
       lent_same : lent_in (set s.views id w) ≡ lent_in s.views
       lent_same = let a = others (λ u. one_if (is_lent u.kind)) in let b = ap (λ (x : PassKind). one_if (is_lent x)) kind in omega arith
 
-      each : (i : ℕ) (u : Deeds) → get_elem? (set s.views id w) i ≡ some u → Fits (pairs_of agenda) (lent_in (set s.views id w)) u
-      each i u e = subst (λ (k : ℕ). Fits (pairs_of agenda) k u) (sym lent_same)
-          (⊎_elim (λ here. subst (Fits (pairs_of agenda) (lent_in s.views)) here.1 fits) (λ other. r.each i u other.1) (at_set s.views id i w u e))
+      each : (i : ℕ) (u : Deeds) → get_elem? (set s.views id w) i ≡ some u → Fits (agenda_pairs agenda) (lent_in (set s.views id w)) u
+      each i u e = subst (λ (k : ℕ). Fits (agenda_pairs agenda) k u) (sym lent_same)
+          (⊎_elim (λ here. subst (Fits (agenda_pairs agenda) (lent_in s.views)) here.1 fits) (λ other. r.each i u other.1) (at_set s.views id i w u e))
 
 times_grow : (q : ℕ) (xs : List ℕ) (p : ℕ) (b : Bool) → times_in q xs ≤ times_in q (handed_more xs p b)
 times_grow q xs p true = let r = times_snoc q xs p in omega arith
@@ -117,7 +117,7 @@ opens agenda slots id v kind some_left s r len at small =
     (λ q. let a = over_set (λ (u : Deeds). pair_times q u.counted) s.views id v (after_open v p (eqb n 1)) at in let o = r.counted_once q in omega arith)
     refl
     refl
-    (opens_fits (pairs_of agenda) (lent_in s.views) v (eqb n 1) kind (r.each id v at)) in (
+    (opens_fits (agenda_pairs agenda) (lent_in s.views) v (eqb n 1) kind (r.each id v at)) in (
       after_open v p (eqb n 1),
       keeps,
       tt,
@@ -153,7 +153,7 @@ counts_fits pairs lent v from p b has f free = record { earlier = earlier; kind 
     by_kind Lent o = (o.0, ordered b o.1)
     by_kind Spent o = let z = ap (times_in from) o.2 in absurd (omega arith)
 
-pub counts_pair : (agenda : Agenda) (slots id : ℕ) (v : Deeds) (from p : ℕ) → p < agenda.pieces → 0 < times_in from v.handed → 0 < pair_times (from, p) (pairs_of agenda) → pair_times (from, p) v.counted ≡ 0
+pub counts_pair : (agenda : Agenda) (slots id : ℕ) (v : Deeds) (from p : ℕ) → p < agenda.pieces → 0 < times_in from v.handed → 0 < pair_times (from, p) (agenda_pairs agenda) → pair_times (from, p) v.counted ≡ 0
     → Allows (IsCounted agenda) slots id (v, []) p (λ n. (n + (2 ^ 64 - 1)) % 2 ^ 64) (HasCounted agenda id from (step slots p 1 0 none) (v, []))
 counts_pair agenda slots id v from p below_all has is new s r len at small =
     let n : ℕ = get_or s.words p 0 in let size = r.size in
@@ -173,11 +173,11 @@ counts_pair agenda slots id v from p below_all has is new s r len at small =
     dite (pair_discrete x (from, p))
     (λ e. let y : same_pair x (from, p) ≡ 1 = ap (λ (z : ℕ × ℕ). same_pair z (from, p)) e ∙ pair_yes (from, p) in
     let z : counted_in x s.views ≡ 0 = ap (λ (z : ℕ × ℕ). counted_in z s.views) e ∙ none_yet in
-    let there : pair_times x (pairs_of agenda) ≡ pair_times (from, p) (pairs_of agenda) = ap (λ (z : ℕ × ℕ). pair_times z (pairs_of agenda)) e in omega arith)
+    let there : pair_times x (agenda_pairs agenda) ≡ pair_times (from, p) (agenda_pairs agenda) = ap (λ (z : ℕ × ℕ). pair_times z (agenda_pairs agenda)) e in omega arith)
     (λ ne. let y = pair_no x (from, p) ne in omega arith))
     refl
     refl
-    (counts_fits (pairs_of agenda) (lent_in s.views) v from p (eqb n 1) has (r.each id v at)
+    (counts_fits (agenda_pairs agenda) (lent_in s.views) v from p (eqb n 1) has (r.each id v at)
     (λ x h. let a = over_at (λ (u : Deeds). times_in x u.handed) s.views id v at in not_waited agenda s r p x positive_word (omega arith))) in (
       after_count v from p (eqb n 1),
       keeps,

@@ -7,7 +7,7 @@ use lib.ListN.{get_elem?}
 use Rattle.atomic_table.specs.Table.{State, step, keeps, stepped, Allows, opening}
 use Rattle.atomic_table.proofs.Lists.{at_set, set_again}
 use Rattle.pac_countdown.specs.Lists.{one_if, times_in, pair_times, pairs_to, sum_over}
-use Rattle.pac_countdown.specs.Counted.{IsCounted, Fits, FitsKind, pairs_of, starting, word, is_opener, is_lent, opened_in, handed_in, counted_in, lent_in, RuleSays}
+use Rattle.pac_countdown.specs.Counted.{IsCounted, Fits, FitsKind, agenda_pairs, starting, word, is_opener, is_lent, opened_in, handed_in, counted_in, lent_in, RuleSays}
 use Rattle.pac_countdown.specs.Steps.{spent_deeds, IsDue, IsAll, HasLooked, HasLoaded, first_deeds}
 use Rattle.pac_countdown.specs.declared.deeds.Deeds.{Deeds}
 use Rattle.pac_countdown.specs.declared.deeds.PassKind.{PassKind}
@@ -26,7 +26,7 @@ module _ (agenda : Agenda) (s : State (Unit {0}) Deeds) (r : IsCounted agenda s)
   empty_beside : (i : ℕ) (u : Deeds) → get_elem? s.views i ≡ some u → i ≢ id → (ro : PassKind) → u.kind ≡ ro → (u.opened ≡ []) × (u.counted ≡ []) × (u.handed ≡ [])
   empty_beside i u e ne Opener is = absurd (beside agenda s r id i v u at e ne (ap is_opener kind) (ap is_opener is))
   empty_beside i u e ne Lent is = let a = over_at (λ (x : Deeds). one_if (is_lent x.kind)) s.views i u e in let b = ap (λ (x : PassKind). one_if (is_lent x)) is in absurd (omega arith)
-  empty_beside i u e ne Spent is = subst (λ (ro : PassKind). FitsKind (pairs_of agenda) ro u) is (r.each i u e).kind
+  empty_beside i u e ne Spent is = subst (λ (ro : PassKind). FitsKind (agenda_pairs agenda) ro u) is (r.each i u e).kind
 
   pub alone : (f : Deeds → ℕ) → ((u : Deeds) → u.opened ≡ [] → u.counted ≡ [] → u.handed ≡ [] → f u ≡ 0) → sum_over f s.views ≡ f v
   alone f none_of = let a = over_set f s.views id v spent_deeds at in let z = none_of spent_deeds refl refl refl in
@@ -37,7 +37,7 @@ module _ (agenda : Agenda) (s : State (Unit {0}) Deeds) (r : IsCounted agenda s)
       (λ other. let m = empty_beside t.0 t.1 other.1 other.0 t.1.kind refl in let k = none_of t.1 m.0 m.1 m.2 in let some_there = t.3 in omega arith)
       (at_set s.views id t.0 spent_deeds t.1 t.2)))
 
-  pub has_all : ((q : ℕ × ℕ) → pair_times q (pairs_of agenda) ≤ 1) → IsAll (pairs_of agenda) v
+  pub has_all : ((q : ℕ × ℕ) → pair_times q (agenda_pairs agenda) ≤ 1) → IsAll (agenda_pairs agenda) v
   has_all once = record { once = λ p. let h = handed_alone p in let o = handed_once agenda s r p in omega arith; due = due; handed = handed }
     where
       handed_alone : (p : ℕ) → handed_in p s.views ≡ times_in p v.handed
@@ -49,16 +49,16 @@ module _ (agenda : Agenda) (s : State (Unit {0}) Deeds) (r : IsCounted agenda s)
       counted_alone : (q : ℕ × ℕ) → counted_in q s.views ≡ pair_times q v.counted
       counted_alone q = alone (λ u. pair_times q u.counted) (λ u a b c. ap (pair_times q) b)
 
-      due : (p : ℕ) → 0 < times_in p v.handed → IsDue (pairs_of agenda) v p
+      due : (p : ℕ) → 0 < times_in p v.handed → IsDue (agenda_pairs agenda) v p
       due p h = let is_zero = word_of_handed agenda s r p (let a = handed_alone p in omega arith) in (
         (let o = all_opened agenda s r p is_zero in let a = opened_alone p in omega arith),
         (λ e is. let c = all_counted agenda s r (e, p) is_zero is in let a = counted_alone (e, p) in omega arith),
       )
 
-      handed : (p : ℕ) → IsDue (pairs_of agenda) v p → 0 < times_in p v.handed
+      handed : (p : ℕ) → IsDue (agenda_pairs agenda) v p → 0 < times_in p v.handed
       handed p is = let o = is.0 in let a = opened_alone p in let b = handed_alone p in let c = r.counts p in
-          let t = all_there (λ (u : Deeds). u.counted) s.views p (pairs_of agenda) (λ e. let k = counted_alone (e, p) in let one = once (e, p) in
-          dite (ℕ_discrete (pair_times (e, p) (pairs_of agenda)) 0) (λ z. omega arith) (λ ne. let d = is.1 e (omega arith) in omega arith)) in
+          let t = all_there (λ (u : Deeds). u.counted) s.views p (agenda_pairs agenda) (λ e. let k = counted_alone (e, p) in let one = once (e, p) in
+          dite (ℕ_discrete (pair_times (e, p) (agenda_pairs agenda)) 0) (λ z. omega arith) (λ ne. let d = is.1 e (omega arith) in omega arith)) in
           let z : word s.words p ≡ 0 = omega arith in let y = ap one_if (eq-eqb (word s.words p) 0 z) in let h = r.handed p in omega arith
 
 pub looks : (agenda : Agenda) (slots id : ℕ) (v : Deeds) (p : ℕ) → p < agenda.pieces
@@ -80,16 +80,16 @@ looks agenda slots id v p below_all s r len at small = (
     found : word s.words p ≡ get_or s.words p 0
     found = inside_default s.words p 1 0 (omega arith)
 
-    looked : HasLooked (pairs_of agenda) p v (get_or s.words p 0)
+    looked : HasLooked (agenda_pairs agenda) p v (get_or s.words p 0)
     looked = record {
       done = λ h. let a = over_at (λ (u : Deeds). times_in p u.handed) s.views id v at in sym found ∙ word_of_handed agenda s r p (omega arith);
       most = let a = over_at (λ (u : Deeds). times_in p u.opened) s.views id v at in let b = over_at (λ (u : Deeds). pairs_to p u.counted) s.views id v at in let c = r.counts p in let f = found in omega arith;
-      ordered = λ e. (subst (λ (ro : PassKind). FitsKind (pairs_of agenda) ro v) e (r.each id v at).kind).1;
+      ordered = λ e. (subst (λ (ro : PassKind). FitsKind (agenda_pairs agenda) ro v) e (r.each id v at).kind).1;
       joins = λ e. let z = (r.each id v at).splits (ap is_opener e) in omega arith;
       all = λ e same_many. let z = (r.each id v at).splits (ap is_opener e) in has_all agenda s r id v at e (omega arith) r.pairs_once;
     }
 
-pub opens_rule : (agenda : Agenda) (words : List ℕ) → ((q : ℕ × ℕ) → pair_times q (pairs_of agenda) ≤ 1) → length words ≡ agenda.pieces → ((p : ℕ) → word words p ≡ starting (pairs_of agenda) p) → IsCounted agenda (opening words [] first_deeds)
+pub opens_rule : (agenda : Agenda) (words : List ℕ) → ((q : ℕ × ℕ) → pair_times q (agenda_pairs agenda) ≤ 1) → length words ≡ agenda.pieces → ((p : ℕ) → word words p ≡ starting (agenda_pairs agenda) p) → IsCounted agenda (opening words [] first_deeds)
 opens_rule agenda words once size starts = record {
   size = size;
   counts = λ p. let a = starts p in omega arith;
@@ -101,8 +101,8 @@ opens_rule agenda words once size starts = record {
   each = each;
 }
   where
-    each : (i : ℕ) (u : Deeds) → get_elem? (first_deeds ∷ []) i ≡ some u → Fits (pairs_of agenda) 0 u
-    each zero u e = subst (Fits (pairs_of agenda) 0) (some-injective first_deeds u e) (record { earlier = λ q h. absurd (omega arith); kind = refl; splits = λ o. refl })
+    each : (i : ℕ) (u : Deeds) → get_elem? (first_deeds ∷ []) i ≡ some u → Fits (agenda_pairs agenda) 0 u
+    each zero u e = subst (Fits (agenda_pairs agenda) 0) (some-injective first_deeds u e) (record { earlier = λ q h. absurd (omega arith); kind = refl; splits = λ o. refl })
     each (suc i) u e = absurd (some-ne-none u (sym e))
 
 pub rule_says : (agenda : Agenda) → RuleSays agenda
@@ -112,7 +112,7 @@ rule_says agenda s r = record { one = one; after = after }
     one i j p v w e f a b = dite (ℕ_discrete i j) (λ h. h)
         (λ ne. let two = over_two (λ (u : Deeds). times_in p u.handed) s.views i j v w ne e f in let once = handed_once agenda s r p in absurd (omega arith))
 
-    after : (i : ℕ) (v : Deeds) (q : ℕ × ℕ) → get_elem? s.views i ≡ some v → 0 < times_in q.1 v.handed → 0 < pair_times q (pairs_of agenda)
+    after : (i : ℕ) (v : Deeds) (q : ℕ × ℕ) → get_elem? s.views i ≡ some v → 0 < times_in q.1 v.handed → 0 < pair_times q (agenda_pairs agenda)
         → (j : ℕ) × (w : Deeds) × (get_elem? s.views j ≡ some w) × (0 < pair_times q w.counted) × (0 < times_in q.0 w.handed)
     after i v q e has is = let a = over_at (λ (u : Deeds). times_in q.1 u.handed) s.views i v e in
         let c = all_counted agenda s r q (word_of_handed agenda s r q.1 (omega arith)) is in

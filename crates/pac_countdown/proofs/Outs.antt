@@ -5,7 +5,7 @@ use native.Mathlib.Decide.{ℕ_discrete}
 use Rattle.std.proofs.lemmas.List.{take-append-drop, drop-drop, get_or_append_left, get_or_push}
 use Rattle.std.specs.List.{All}
 use Rattle.pac_countdown.specs.Lists.{one_if, times_in, pair_times, sum_over, below, except, keep_if}
-use Rattle.pac_countdown.specs.Counted.{InOrder, pairs_of}
+use Rattle.pac_countdown.specs.Counted.{InOrder, agenda_pairs}
 use Rattle.pac_countdown.specs.Steps.{handed_more, after_open, after_split, after_join, lent_deeds, AreBelow, IsAll}
 use Rattle.pac_countdown.specs.HandOut.{IsUnworked, IsWorkedOff, opener_deeds, AreDistinctBelow, HasJoined}
 use Rattle.pac_countdown.specs.Shares.{times_in_all, AreOrdered}
@@ -114,18 +114,18 @@ starts_joined pairs pieces left v is = subst (HasJoined pairs pieces left []) (s
     (record { kind = refl; opened = refl; splits = omega arith; handed = λ p. refl; counted = λ q h t. absurd (omega arith); ordered = tt })
 
 -- one pass more was joined
-pub joined_on : (countdown : Countdown) (pieces left : ℕ) (shares : List (List ℕ)) (v w : Deeds) (worker : Worker) → HasJoined (pairs_of countdown.agenda) pieces (left + 1) shares v → IsWorkedOff countdown worker
-    → w ≡ after_join v worker.pass.deeds → HasJoined (pairs_of countdown.agenda) pieces left (shares ++ worker.pieces.items ∷ []) w
-joined_on countdown pieces left shares v w worker j d is = subst (HasJoined (pairs_of countdown.agenda) pieces left (shares ++ worker.pieces.items ∷ [])) (sym is) (record {
+pub joined_on : (countdown : Countdown) (pieces left : ℕ) (shares : List (List ℕ)) (v w : Deeds) (worker : Worker) → HasJoined (agenda_pairs countdown.agenda) pieces (left + 1) shares v → IsWorkedOff countdown worker
+    → w ≡ after_join v worker.pass.deeds → HasJoined (agenda_pairs countdown.agenda) pieces left (shares ++ worker.pieces.items ∷ []) w
+joined_on countdown pieces left shares v w worker j d is = subst (HasJoined (agenda_pairs countdown.agenda) pieces left (shares ++ worker.pieces.items ∷ [])) (sym is) (record {
   kind = j.kind;
   opened = j.opened;
   splits = let s = j.splits in omega arith;
   handed = λ p. let a = times_append p v.handed worker.pass.deeds.handed in let b = j.handed p in let c = ap (times_in p) d.held.handed in let e = over_snoc (λ (l : List ℕ). times_in p l) shares worker.pieces.items in omega arith;
   counted = λ q h t. let a = times_append q.0 v.handed worker.pass.deeds.handed in let b = pair_times_append q v.counted worker.pass.deeds.counted in let c = ap (times_in q.0) d.held.handed in
       let e = ap (pair_times q) d.counted in dite (ℕ_discrete (times_in q.0 v.handed) 0)
-      (λ z. let k = all_these (pairs_of countdown.agenda) q worker.pieces.items (omega arith) t in omega arith)
+      (λ z. let k = all_these (agenda_pairs countdown.agenda) q worker.pieces.items (omega arith) t in omega arith)
       (λ ne. let k = j.counted q (omega arith) t in omega arith);
-  ordered = ordered_snoc (pairs_of countdown.agenda) shares worker.pieces.items j.ordered d.ordered;
+  ordered = ordered_snoc (agenda_pairs countdown.agenda) shares worker.pieces.items j.ordered d.ordered;
 })
 
 -- what holds of each holds of those before the last, and of the last

@@ -7,7 +7,7 @@ use lib.ListN.{get_elem?}
 use Rattle.atomic_table.specs.Table.{Joins, Splits}
 use Rattle.atomic_table.proofs.Lists.{at_set, at_snoc, set_else}
 use Rattle.pac_countdown.specs.Lists.{one_if, same, times_in, pair_times, pairs_to, sum_over, except, keep_if}
-use Rattle.pac_countdown.specs.Counted.{IsCounted, Fits, FitsKind, InOrder, pairs_of, starting, word, is_opener, is_lent, opened_in, handed_in, counted_in, counted_to, openers_in, lent_in}
+use Rattle.pac_countdown.specs.Counted.{IsCounted, Fits, FitsKind, InOrder, agenda_pairs, starting, word, is_opener, is_lent, opened_in, handed_in, counted_in, counted_to, openers_in, lent_in}
 use Rattle.pac_countdown.specs.Steps.{after_split, lent_deeds, after_join, spent_deeds}
 use Rattle.pac_countdown.specs.declared.deeds.Deeds.{Deeds}
 use Rattle.pac_countdown.specs.declared.deeds.PassKind.{PassKind}
@@ -66,13 +66,13 @@ splits_off agenda id v share kind differ among free s r at =
         (λ z. let k = times_kept p share v.handed z in omega arith)
         (λ ne. let k = times_shared p share v.handed (omega arith) in let d = differ p in let a = among p (omega arith) in omega arith)
 
-    counts : (p : ℕ) → word s.words p + opened_in p (set s.views id w ++ new ∷ []) + counted_to p (set s.views id w ++ new ∷ []) ≡ starting (pairs_of agenda) p
+    counts : (p : ℕ) → word s.words p + opened_in p (set s.views id w ++ new ∷ []) + counted_to p (set s.views id w ++ new ∷ []) ≡ starting (agenda_pairs agenda) p
     counts p = let a = sum (λ u. times_in p u.opened) in let b = sum (λ u. pairs_to p u.counted) in let c = r.counts p in omega arith
 
     opened_once : (p : ℕ) → opened_in p (set s.views id w ++ new ∷ []) ≤ 1
     opened_once p = let a = sum (λ u. times_in p u.opened) in let c = r.opened_once p in omega arith
 
-    counted_once : (q : ℕ × ℕ) → counted_in q (set s.views id w ++ new ∷ []) ≤ pair_times q (pairs_of agenda)
+    counted_once : (q : ℕ × ℕ) → counted_in q (set s.views id w ++ new ∷ []) ≤ pair_times q (agenda_pairs agenda)
     counted_once q = let a = sum (λ u. pair_times q u.counted) in let c = r.counted_once q in omega arith
 
     handed : (p : ℕ) → handed_in p (set s.views id w ++ new ∷ []) ≡ one_if (eqb (word s.words p) 0)
@@ -84,37 +84,37 @@ splits_off agenda id v share kind differ among free s r at =
     lent_more : lent_in (set s.views id w ++ new ∷ []) ≡ lent_in s.views + 1
     lent_more = let a = sum (λ u. one_if (is_lent u.kind)) in omega arith
 
-    fits : Fits (pairs_of agenda) (lent_in s.views + 1) w
+    fits : Fits (agenda_pairs agenda) (lent_in s.views + 1) w
     fits = let f = r.each id v at in record {
       earlier = λ q h. let e = f.earlier q h in let b = parted q.0 in dite (ℕ_discrete (times_in q.0 share) 0)
           (λ z. omega arith)
           (λ ne. let z = free q.0 q.1 (omega arith) in absurd (omega arith));
-      kind = subst (λ (ro : PassKind). FitsKind (pairs_of agenda) ro w) (sym kind) (subst (λ (ro : PassKind). FitsKind (pairs_of agenda) ro v) kind f.kind);
+      kind = subst (λ (ro : PassKind). FitsKind (agenda_pairs agenda) ro w) (sym kind) (subst (λ (ro : PassKind). FitsKind (agenda_pairs agenda) ro v) kind f.kind);
       splits = λ e. let z = f.splits e in omega arith;
     }
 
-    new_fits : Fits (pairs_of agenda) (lent_in s.views + 1) new
+    new_fits : Fits (agenda_pairs agenda) (lent_in s.views + 1) new
     new_fits = record {
       earlier = λ q h. absurd (omega arith);
-      kind = (refl, in_order_all (pairs_of agenda) share ordered);
+      kind = (refl, in_order_all (agenda_pairs agenda) share ordered);
       splits = λ e. absurd (bool_no e);
     }
       where
         bool_no : false ≡ true → ⊥
         bool_no e = cc
 
-        ordered : (x y : ℕ) → 0 < times_in x share → 0 < times_in y share → pair_times (y, x) (pairs_of agenda) ≡ 0
-        ordered x y hx hy = dite (ℕ_discrete (pair_times (y, x) (pairs_of agenda)) 0) (λ z. z)
+        ordered : (x y : ℕ) → 0 < times_in x share → 0 < times_in y share → pair_times (y, x) (agenda_pairs agenda) ≡ 0
+        ordered x y hx hy = dite (ℕ_discrete (pair_times (y, x) (agenda_pairs agenda)) 0) (λ z. z)
             (λ ne. let mine = over_at (λ (u : Deeds). times_in x u.handed) s.views id v at in let a = among x hx in
             let c = all_counted agenda s r (y, x) (word_of_handed agenda s r x (omega arith)) (omega arith) in
             let z = not_counted agenda s r id v (y, x) at (among y hy) (free y x hy) in absurd (omega arith))
 
-    each : (i : ℕ) (u : Deeds) → get_elem? (set s.views id w ++ new ∷ []) i ≡ some u → Fits (pairs_of agenda) (lent_in (set s.views id w ++ new ∷ [])) u
-    each i u e = subst (λ (k : ℕ). Fits (pairs_of agenda) k u) (sym lent_more)
+    each : (i : ℕ) (u : Deeds) → get_elem? (set s.views id w ++ new ∷ []) i ≡ some u → Fits (agenda_pairs agenda) (lent_in (set s.views id w ++ new ∷ [])) u
+    each i u e = subst (λ (k : ℕ). Fits (agenda_pairs agenda) k u) (sym lent_more)
         (⊎_elim
-        (λ there. ⊎_elim (λ here. subst (Fits (pairs_of agenda) (lent_in s.views + 1)) here.1 fits)
-        (λ other. no_opener_fits (pairs_of agenda) (lent_in s.views) (lent_in s.views + 1) u (beside agenda s r id i v u at other.1 other.0 opener) (r.each i u other.1)) (at_set s.views id i w u there))
-        (λ last. subst (Fits (pairs_of agenda) (lent_in s.views + 1)) last new_fits)
+        (λ there. ⊎_elim (λ here. subst (Fits (agenda_pairs agenda) (lent_in s.views + 1)) here.1 fits)
+        (λ other. no_opener_fits (agenda_pairs agenda) (lent_in s.views) (lent_in s.views + 1) u (beside agenda s r id i v u at other.1 other.0 opener) (r.each i u other.1)) (at_set s.views id i w u there))
+        (λ last. subst (Fits (agenda_pairs agenda) (lent_in s.views + 1)) last new_fits)
         (at_snoc (set s.views id w) new u i e))
 
 false_no : false ≡ true → ⊥
@@ -139,25 +139,25 @@ joins_in agenda id v other w kind lent s r at apart at_other =
     there : get_elem? s.views other ≡ some w
     there = sym (set_else s.views id other both apart) ∙ at_other
 
-    fit : Fits (pairs_of agenda) (lent_in s.views) v
+    fit : Fits (agenda_pairs agenda) (lent_in s.views) v
     fit = r.each id v at
 
-    fit_other : Fits (pairs_of agenda) (lent_in s.views) w
+    fit_other : Fits (agenda_pairs agenda) (lent_in s.views) w
     fit_other = r.each other w there
 
     none_opened : w.opened ≡ []
-    none_opened = (subst (λ (ro : PassKind). FitsKind (pairs_of agenda) ro w) lent fit_other.kind).0
+    none_opened = (subst (λ (ro : PassKind). FitsKind (agenda_pairs agenda) ro w) lent fit_other.kind).0
 
     sum : (f : Deeds → ℕ) → sum_over f (set (set s.views id both) other spent_deeds) + f v + f w ≡ sum_over f s.views + f both + f spent_deeds
     sum f = let a = over_set f s.views id v both at in let b = over_set f (set s.views id both) other w spent_deeds at_other in omega arith
 
-    counts : (p : ℕ) → word s.words p + opened_in p (set (set s.views id both) other spent_deeds) + counted_to p (set (set s.views id both) other spent_deeds) ≡ starting (pairs_of agenda) p
+    counts : (p : ℕ) → word s.words p + opened_in p (set (set s.views id both) other spent_deeds) + counted_to p (set (set s.views id both) other spent_deeds) ≡ starting (agenda_pairs agenda) p
     counts p = let a = sum (λ u. times_in p u.opened) in let b = sum (λ u. pairs_to p u.counted) in let c = r.counts p in let z = ap (times_in p) none_opened in let t = pairs_to_append p v.counted w.counted in omega arith
 
     opened_once : (p : ℕ) → opened_in p (set (set s.views id both) other spent_deeds) ≤ 1
     opened_once p = let a = sum (λ u. times_in p u.opened) in let c = r.opened_once p in omega arith
 
-    counted_once : (q : ℕ × ℕ) → counted_in q (set (set s.views id both) other spent_deeds) ≤ pair_times q (pairs_of agenda)
+    counted_once : (q : ℕ × ℕ) → counted_in q (set (set s.views id both) other spent_deeds) ≤ pair_times q (agenda_pairs agenda)
     counted_once q = let a = sum (λ u. pair_times q u.counted) in let c = r.counted_once q in let t = pair_times_append q v.counted w.counted in omega arith
 
     handed : (p : ℕ) → handed_in p (set (set s.views id both) other spent_deeds) ≡ one_if (eqb (word s.words p) 0)
@@ -172,20 +172,20 @@ joins_in agenda id v other w kind lent s r at apart at_other =
     fewer : lent_in s.views ≡ lent_in (set (set s.views id both) other spent_deeds) + 1
     fewer = let a = sum (λ u. one_if (is_lent u.kind)) in let z = ap (λ (x : PassKind). one_if (is_lent x)) lent in omega arith
 
-    fits : (k : ℕ) → lent_in s.views ≡ k + 1 → Fits (pairs_of agenda) k both
+    fits : (k : ℕ) → lent_in s.views ≡ k + 1 → Fits (agenda_pairs agenda) k both
     fits k e = record {
       earlier = λ q h. let t = pair_times_append q v.counted w.counted in let d = times_append q.0 v.handed w.handed in dite (ℕ_discrete (pair_times q v.counted) 0)
           (λ z. let f = fit_other.earlier q (omega arith) in omega arith)
           (λ ne. let f = fit.earlier q (omega arith) in omega arith);
-      kind = subst (λ (ro : PassKind). FitsKind (pairs_of agenda) ro both) (sym kind) (subst (λ (ro : PassKind). FitsKind (pairs_of agenda) ro v) kind fit.kind);
+      kind = subst (λ (ro : PassKind). FitsKind (agenda_pairs agenda) ro both) (sym kind) (subst (λ (ro : PassKind). FitsKind (agenda_pairs agenda) ro v) kind fit.kind);
       splits = λ o. let z = fit.splits o in omega arith;
     }
 
-    each : (i : ℕ) (u : Deeds) → get_elem? (set (set s.views id both) other spent_deeds) i ≡ some u → Fits (pairs_of agenda) (lent_in (set (set s.views id both) other spent_deeds)) u
+    each : (i : ℕ) (u : Deeds) → get_elem? (set (set s.views id both) other spent_deeds) i ≡ some u → Fits (agenda_pairs agenda) (lent_in (set (set s.views id both) other spent_deeds)) u
     each i u e = ⊎_elim
-        (λ gone. subst (Fits (pairs_of agenda) (lent_in (set (set s.views id both) other spent_deeds))) gone.1 (spent_fits (pairs_of agenda) (lent_in (set (set s.views id both) other spent_deeds))))
+        (λ gone. subst (Fits (agenda_pairs agenda) (lent_in (set (set s.views id both) other spent_deeds))) gone.1 (spent_fits (agenda_pairs agenda) (lent_in (set (set s.views id both) other spent_deeds))))
         (λ left. ⊎_elim
-        (λ here. subst (Fits (pairs_of agenda) (lent_in (set (set s.views id both) other spent_deeds))) here.1 (fits (lent_in (set (set s.views id both) other spent_deeds)) fewer))
-        (λ before. no_opener_fits (pairs_of agenda) (lent_in s.views) (lent_in (set (set s.views id both) other spent_deeds)) u (beside agenda s r id i v u at before.1 before.0 opener) (r.each i u before.1))
+        (λ here. subst (Fits (agenda_pairs agenda) (lent_in (set (set s.views id both) other spent_deeds))) here.1 (fits (lent_in (set (set s.views id both) other spent_deeds)) fewer))
+        (λ before. no_opener_fits (agenda_pairs agenda) (lent_in s.views) (lent_in (set (set s.views id both) other spent_deeds)) u (beside agenda s r id i v u at before.1 before.0 opener) (r.each i u before.1))
         (at_set s.views id i both u left.1))
         (at_set (set s.views id both) other i spent_deeds u e)

@@ -18,8 +18,8 @@ abbrev pub Moment : Type 0
 Moment = State (Unit {0}) Deeds
 
 -- the pairs of an agenda
-abbrev pub pairs_of : Agenda → List (ℕ × ℕ)
-pairs_of agenda = agenda.preds.value
+abbrev pub agenda_pairs : Agenda → List (ℕ × ℕ)
+agenda_pairs agenda = agenda.preds.value
 
 -- it is the opener's
 abbrev pub is_opener : PassKind → Bool
@@ -93,19 +93,19 @@ pub record IsCounted (agenda : Agenda) (s : Moment) : Type 0 where
   -- there is a word for each piece
   pub size : length s.words ≡ agenda.pieces
   -- the word of a piece, its openings and the counted pairs to it are together what the word started as
-  pub counts : (p : ℕ) → word s.words p + opened_in p s.views + counted_to p s.views ≡ starting (pairs_of agenda) p
+  pub counts : (p : ℕ) → word s.words p + opened_in p s.views + counted_to p s.views ≡ starting (agenda_pairs agenda) p
   -- no piece is opened twice
   pub opened_once : (p : ℕ) → opened_in p s.views ≤ 1
   -- no pair stands twice among the pairs
-  pub pairs_once : (q : ℕ × ℕ) → pair_times q (pairs_of agenda) ≤ 1
+  pub pairs_once : (q : ℕ × ℕ) → pair_times q (agenda_pairs agenda) ≤ 1
   -- none is counted more often than it stands there, so none twice
-  pub counted_once : (q : ℕ × ℕ) → counted_in q s.views ≤ pair_times q (pairs_of agenda)
+  pub counted_once : (q : ℕ × ℕ) → counted_in q s.views ≤ pair_times q (agenda_pairs agenda)
   -- a piece was handed out once if its word is 0, and else never
   pub handed : (p : ℕ) → handed_in p s.views ≡ one_if (word s.words p == 0)
   -- exactly one pass is the opener's
   pub one_opener : openers_in s.views ≡ 1
   -- each pass keeps to its part
-  pub each : (i : ℕ) (v : Deeds) → get_elem? s.views i ≡ some v → Fits (pairs_of agenda) (lent_in s.views) v
+  pub each : (i : ℕ) (v : Deeds) → get_elem? s.views i ≡ some v → Fits (agenda_pairs agenda) (lent_in s.views) v
 
 -- what follows from the rule for the pieces that were handed out
 pub record GoesOnce (pairs : List (ℕ × ℕ)) (views : List Deeds) : Type 0 where
@@ -117,4 +117,4 @@ pub record GoesOnce (pairs : List (ℕ × ℕ)) (views : List Deeds) : Type 0 wh
 
 -- at each moment that keeps the rule, a piece was handed to one pass, after all that it waits for
 abbrev pub RuleSays : Agenda → Type 0
-RuleSays agenda = (s : Moment) → IsCounted agenda s → GoesOnce (pairs_of agenda) s.views
+RuleSays agenda = (s : Moment) → IsCounted agenda s → GoesOnce (agenda_pairs agenda) s.views

@@ -1,7 +1,7 @@
 -- What a worker does with the pieces that it is handed, and the opener around the workers.
 use Rattle.std.specs.Prelude.{◌≡◌, ◌==◌, ◌+◌, ◌<◌, ◌≤◌, ℕ, Bool, true, false, List, [], ◌∷◌, ◌++◌, length, slice_index_or}
 use Rattle.pac_countdown.specs.Lists.{times_in, pair_times, below}
-use Rattle.pac_countdown.specs.Counted.{InOrder, pairs_of}
+use Rattle.pac_countdown.specs.Counted.{InOrder, agenda_pairs}
 use Rattle.pac_countdown.specs.Shares.{times_in_all, AreOrdered}
 use Rattle.pac_countdown.specs.declared.deeds.Deeds.{Deeds}
 use Rattle.pac_countdown.specs.declared.deeds.PassKind.TheVariants.{Opener, Lent}
@@ -34,7 +34,7 @@ AreLaters pairs pieces laters = (p : ℕ) → p < pieces → paired p (slice_ind
 
 -- there is such a list for each piece of the countdown
 abbrev pub HasLaters : Countdown → List (List ℕ) → Type 0
-HasLaters countdown laters = (length laters ≡ countdown.agenda.pieces) × AreLaters (pairs_of countdown.agenda) countdown.agenda.pieces laters
+HasLaters countdown laters = (length laters ≡ countdown.agenda.pieces) × AreLaters (agenda_pairs countdown.agenda) countdown.agenda.pieces laters
 
 -- no piece stands twice, and each is less than this number
 pub record AreDistinctBelow (n : ℕ) (pieces : List ℕ) : Type 0 where
@@ -56,8 +56,8 @@ pub record IsUnworked (countdown : Countdown) (worker : Worker) : Type 0 where
 -- each pair of the pieces is counted, and the pieces are in order
 pub record IsWorkedOff (countdown : Countdown) (worker : Worker) : Type 0 where
   pub held : IsHeld countdown worker
-  pub counted : worker.pass.deeds.counted ≡ pairs_of_all (pairs_of countdown.agenda) worker.pieces.items
-  pub ordered : InOrder (pairs_of countdown.agenda) worker.pieces.items
+  pub counted : worker.pass.deeds.counted ≡ pairs_of_all (agenda_pairs countdown.agenda) worker.pieces.items
+  pub ordered : InOrder (agenda_pairs countdown.agenda) worker.pieces.items
 
 -- since the start of a loop the pairs of a piece with these later ones were counted, and the list has grown
 pub record CountsFrom (countdown : Countdown) (start worker : Worker) (laters : List ℕ) (from : ℕ) : Type 0 where

@@ -4,7 +4,7 @@ use mathlib.Core.Option.{some}
 use lib.ListN.{get_elem?}
 use Rattle.atomic_table.specs.Table.{Me, Step}
 use Rattle.pac_countdown.specs.Lists.{times_in, pair_times, pairs_to, except}
-use Rattle.pac_countdown.specs.Counted.{Moment, IsCounted, InOrder, pairs_of, starting, word}
+use Rattle.pac_countdown.specs.Counted.{Moment, IsCounted, InOrder, agenda_pairs, starting, word}
 use Rattle.pac_countdown.specs.declared.deeds.Deeds.{Deeds}
 use Rattle.pac_countdown.specs.declared.deeds.PassKind.TheVariants.{Opener, Lent, Spent}
 use Rattle.pac_countdown.specs.declared.deeds.Agenda.{Agenda}
@@ -120,4 +120,4 @@ pub record HasLooked (pairs : List (ℕ × ℕ)) (p : ℕ) (v : Deeds) (found : 
 -- what a load tells its caller: nothing changes
 abbrev pub HasLoaded : Agenda → ℕ → Step (Unit {0}) → Me (Unit {0}) Deeds → ℕ → Me (Unit {0}) Deeds → Type 0
 HasLoaded agenda number st before found after =
-    (after ≡ before) × HasLooked (pairs_of agenda) st.word before.0 found × FindsWord agenda number st.word before.0 found
+    (after ≡ before) × HasLooked (agenda_pairs agenda) st.word before.0 found × FindsWord agenda number st.word before.0 found

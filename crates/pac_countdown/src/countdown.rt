@@ -1,7 +1,7 @@
 // The hand-out over atomic words.
 ghost use Rattle.std.specs.Prelude.{◌≡◌, ◌==◌, ◌+◌, ◌<◌, ◌≤◌, ◌^◌, ℕ, [], length, IfOk, All, slice_index, vec_len};
 ghost use Rattle.pac_countdown.specs.Lists.{times_in, pair_times, pairs_to};
-ghost use Rattle.pac_countdown.specs.Counted.{IsCounted, pairs_of, starting, RuleSays};
+ghost use Rattle.pac_countdown.specs.Counted.{IsCounted, agenda_pairs, starting, RuleSays};
 ghost use Rattle.pac_countdown.specs.Steps.{AreBelow, first_deeds, after_open, after_count, after_split, lent_deeds, after_join, TakesOne, FindsWord, KeepsBySplit, KeepsByJoin, HasLooked, IsAll};
 ghost use Rattle.pac_countdown.specs.declared.deeds.PassKind.TheVariants.{Opener, Lent};
 
@@ -37,7 +37,7 @@ pub struct Countdown {
 impl Model for Countdown {
     ghost use Rattle.std.specs.Prelude.{◌≡◌, ◌<◌, ◌≤◌, ℕ};
     ghost use Rattle.pac_countdown.specs.Lists.{pair_times};
-    ghost use Rattle.pac_countdown.specs.Counted.{pairs_of};
+    ghost use Rattle.pac_countdown.specs.Counted.{agenda_pairs};
     ghost use Rattle.pac_countdown.specs.Steps.{AreBelow};
     ghost use Rattle.pac_countdown.specs.Seen.{CountdownSeen, countdown_code};
 
@@ -49,8 +49,8 @@ impl Model for Countdown {
 
     ghost invariant = { λ countdown. (countdown.table.shared.table_id.words ≡ countdown.table.shared.key.pieces)
         × (0 < countdown.table.shared.key.pieces) × (countdown.table.shared.key.pieces ≤ 1024)
-        × ((q : ℕ × ℕ) → pair_times q (pairs_of countdown.table.shared.key) ≤ 1)
-        × AreBelow countdown.table.shared.key.pieces (pairs_of countdown.table.shared.key) };
+        × ((q : ℕ × ℕ) → pair_times q (agenda_pairs countdown.table.shared.key) ≤ 1)
+        × AreBelow countdown.table.shared.key.pieces (agenda_pairs countdown.table.shared.key) };
 }
 
 // The word of each piece at first.
@@ -77,7 +77,7 @@ impl Countdown {
         requires pieces { (0 < pieces) × (pieces ≤ 1024) }
         requires within { All (λ pair. pair.1 < pieces) preds.now }
         requires once { (q : ℕ × ℕ) → pair_times q preds.now ≤ 1 }
-        ensures pairs { IfOk result (λ made. pairs_of made.0.agenda ≡ preds.now) }
+        ensures pairs { IfOk result (λ made. agenda_pairs made.0.agenda ≡ preds.now) }
         ensures pieces { IfOk result (λ made. made.0.agenda.pieces ≡ pieces) }
         ensures pass { IfOk result (λ made. made.1.countdown ≡ made.0.id) }
         ensures first { IfOk result (λ made. made.1.deeds ≡ first_deeds) }
@@ -130,7 +130,7 @@ impl Countdown {
     fn count_as<C: Caller>(&self, pass: &mut Pass, from: u32, to: u32) -> bool
         requires call { (C.agenda ≡ self.now.agenda) × (C.number ≡ pass.old.number) × (C.from ≡ from) }
         requires of { pass.old.countdown ≡ self.now.id }
-        requires pair { 0 < pair_times (from, to) (pairs_of self.now.agenda) }
+        requires pair { 0 < pair_times (from, to) (agenda_pairs self.now.agenda) }
         requires handed { 0 < times_in from pass.old.deeds.handed }
         requires new { pair_times (from, to) pass.old.deeds.counted ≡ 0 }
         ensures of { (pass.new.countdown ≡ self.now.id) × (pass.new.number ≡ pass.old.number) }
@@ -149,7 +149,7 @@ impl Countdown {
     /// Takes no memory.
     pub fn count(&self, pass: &mut Pass, from: u32, to: u32) -> bool
         requires of { pass.old.countdown ≡ self.now.id }
-        requires pair { 0 < pair_times (from, to) (pairs_of self.now.agenda) }
+        requires pair { 0 < pair_times (from, to) (agenda_pairs self.now.agenda) }
         requires handed { 0 < times_in from pass.old.deeds.handed }
         requires new { pair_times (from, to) pass.old.deeds.counted ≡ 0 }
         ensures of { (pass.new.countdown ≡ self.now.id) × (pass.new.number ≡ pass.old.number) }
@@ -165,7 +165,7 @@ impl Countdown {
         requires of { pass.old.countdown ≡ self.now.id }
         requires piece { piece < self.now.agenda.pieces }
         ensures same { pass.new ≡ pass.old }
-        ensures looked { HasLooked (pairs_of self.now.agenda) piece pass.old.deeds result }
+        ensures looked { HasLooked (agenda_pairs self.now.agenda) piece pass.old.deeds result }
         ensures step { FindsWord self.now.agenda pass.old.number piece pass.old.deeds result }
     {
         self.table
@@ -178,7 +178,7 @@ impl Countdown {
         requires of { pass.old.countdown ≡ self.now.id }
         requires piece { piece < self.now.agenda.pieces }
         ensures same { pass.new ≡ pass.old }
-        ensures looked { HasLooked (pairs_of self.now.agenda) piece pass.old.deeds result }
+        ensures looked { HasLooked (agenda_pairs self.now.agenda) piece pass.old.deeds result }
         ensures step { FindsWord self.now.agenda pass.old.number piece pass.old.deeds result }
     {
         self.look_as::<Brand>(pass, piece)
@@ -188,7 +188,7 @@ impl Countdown {
     pub(crate) fn learn(&self, pass: &mut Pass)
         requires of { pass.old.countdown ≡ self.now.id }
         ensures same { pass.new ≡ pass.old }
-        ensures looked { (n : ℕ) × HasLooked (pairs_of self.now.agenda) 0 pass.old.deeds n }
+        ensures looked { (n : ℕ) × HasLooked (agenda_pairs self.now.agenda) 0 pass.old.deeds n }
     {
         let _ = &self.table.shared;
         self.look(pass, 0);
@@ -196,14 +196,14 @@ impl Countdown {
 
     // Each pair is an earlier piece and a later one.
     pub(crate) fn pairs_are_below(&self)
-        ensures { AreBelow self.now.agenda.pieces (pairs_of self.now.agenda) }
+        ensures { AreBelow self.now.agenda.pieces (agenda_pairs self.now.agenda) }
     {
         let _ = &self.table.shared;
     }
 
     // No pair stands twice.
     pub(crate) fn pairs_differ(&self)
-        ensures { (q : ℕ × ℕ) → pair_times q (pairs_of self.now.agenda) ≤ 1 }
+        ensures { (q : ℕ × ℕ) → pair_times q (agenda_pairs self.now.agenda) ≤ 1 }
     {
         let _ = &self.table.shared;
     }
@@ -214,7 +214,7 @@ impl Countdown {
         requires piece { piece < self.now.agenda.pieces }
         ensures same { pass.new ≡ pass.old }
         ensures handed { 0 < times_in piece pass.old.deeds.handed → result ≡ 0 }
-        ensures most { result + times_in piece pass.old.deeds.opened + pairs_to piece pass.old.deeds.counted ≤ starting (pairs_of self.now.agenda) piece }
+        ensures most { result + times_in piece pass.old.deeds.opened + pairs_to piece pass.old.deeds.counted ≤ starting (agenda_pairs self.now.agenda) piece }
         ensures step { FindsWord self.now.agenda pass.old.number piece pass.old.deeds result }
     {
         self.look(pass, piece)
@@ -301,7 +301,7 @@ impl Countdown {
         requires opener { pass.deeds.kind ≡ Opener }
         requires whole { pass.deeds.splits ≡ pass.deeds.joins }
         ensures handed { result ≡ pass.deeds.handed }
-        ensures all { IsAll (pairs_of self.agenda) pass.deeds }
+        ensures all { IsAll (agenda_pairs self.agenda) pass.deeds }
     {
         let mut pass = pass;
         self.learn(&mut pass);

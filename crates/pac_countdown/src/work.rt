@@ -1,7 +1,7 @@
 // What a worker does.
 ghost use Rattle.std.specs.Prelude.{◌≡◌, ◌<◌, ◌++◌, ℕ, List, IfOk, OnOk};
 ghost use Rattle.pac_countdown.specs.Lists.{times_in, pair_times};
-ghost use Rattle.pac_countdown.specs.Counted.{pairs_of};
+ghost use Rattle.pac_countdown.specs.Counted.{agenda_pairs};
 ghost use Rattle.pac_countdown.specs.HandOut.{HasLaters, IsHeld, IsUnworked, IsWorkedOff, paired, pairs_from};
 
 use crate::countdown::Countdown;
@@ -15,13 +15,13 @@ fn count_from(
     worker: &mut Worker,
     from: u32,
 ) -> Result<(), NoMemory>
-    requires laters { paired from laters.now ≡ pairs_from (pairs_of countdown.now.agenda) from }
+    requires laters { paired from laters.now ≡ pairs_from (agenda_pairs countdown.now.agenda) from }
     requires held { IsHeld countdown.now worker.old }
     requires from { 0 < times_in from worker.old.pieces.items }
     requires new { (t : ℕ) → pair_times (from, t) worker.old.pass.deeds.counted ≡ 0 }
     ensures held { OnOk result (IsHeld countdown.now worker.new) }
     ensures grows { OnOk result ((more : List ℕ) × (worker.new.pieces.items ≡ worker.old.pieces.items ++ more)) }
-    ensures counted { OnOk result (worker.new.pass.deeds.counted ≡ worker.old.pass.deeds.counted ++ pairs_from (pairs_of countdown.now.agenda) from) }
+    ensures counted { OnOk result (worker.new.pass.deeds.counted ≡ worker.old.pass.deeds.counted ++ pairs_from (agenda_pairs countdown.now.agenda) from) }
 {
     countdown.pairs_are_below();
     countdown.pairs_differ();

@@ -1,7 +1,7 @@
 // The hand-out of all pieces of a set.
 ghost use Rattle.std.specs.Prelude.{◌≡◌, ◌==◌, ◌<◌, ◌≤◌, ◌&&◌, ◌+◌, ℕ, List, [], IfOk, OnOk, All, vec_len, length, nat_lt, take, drop};
 ghost use Rattle.pac_countdown.specs.Lists.{pair_times, one_if};
-ghost use Rattle.pac_countdown.specs.Counted.{pairs_of};
+ghost use Rattle.pac_countdown.specs.Counted.{agenda_pairs};
 ghost use Rattle.pac_countdown.specs.Steps.{first_deeds};
 ghost use Rattle.pac_countdown.specs.Shares.{times_in_all, AreOrdered};
 ghost use Rattle.pac_countdown.specs.HandOut.{IsUnworked, IsWorkedOff, opener_deeds, AreDistinctBelow, HasJoined};
@@ -93,7 +93,7 @@ fn join_all(
     requires all { pass.old.deeds ≡ opener_deeds countdown.now.agenda.pieces [] (vec_len crew) }
     requires crew { All (λ worker. IfOk worker (IsWorkedOff countdown.now)) crew.items }
     ensures of { OnOk result (pass.new.countdown ≡ countdown.now.id) }
-    ensures joined { IfOk result (λ shares. HasJoined (pairs_of countdown.now.agenda) countdown.now.agenda.pieces 0 shares.items pass.new.deeds) }
+    ensures joined { IfOk result (λ shares. HasJoined (agenda_pairs countdown.now.agenda) countdown.now.agenda.pieces 0 shares.items pass.new.deeds) }
     ensures len { IfOk result (λ shares. vec_len shares ≡ vec_len crew) }
 {
     let mut shares = Vec::new(alloc);

@@ -17,8 +17,8 @@ use Rattle.pac_commute.specs.Loads.{Job, begin, next_in_job, loaded, and_batch, 
 use Rattle.pac_commute.specs.Machine.{Machine, among, world_at, pieces_at, ends_at}
 use Rattle.pac_commute.proofs.PlanFacts.{well_formed_plan, needs_plan, ends_as_replayed}
 use Rattle.pac_base.proofs.TestLemmas.{or_right, and_left, same_number, any_gives, mem_each, each_mem}
-use Rattle.pac_lanes.specs.Shares.{applied, adds_all, RunsInOrder, InputsAtTurns, IsRun}
-use Rattle.pac_lanes.specs.Lanes.{Lane, StaysIn, is_lent, Agree, ArePart, IsPutBack}
+use Rattle.pac_lanes.specs.Shares.{applied_each, adds_all, RunsInOrder, HasInputsAtTurns, IsShareRun}
+use Rattle.pac_lanes.specs.Lanes.{Lane, StaysIn, is_lent_with, Agree, ArePart, IsPutBack}
 use Rattle.pac_commute.specs.Machine.{MayBeTaken, StepBy, StepsBy, Keeps}
 use Rattle.pac_commute.specs.Machine as steps
 use Rattle.pac_lanes.specs.Finish.{NothingOut, after_share, RunsAt, ShareStep, Loaded, Finished, ShareSteps, Any, FinishIsSteps, StepIsSteps, OpensShares, SharesKeep, SharesStayFinished, SharesEnd, IsLent, LentHasInputs, Beside, StaysLent, LentStays, ReturnIsFinish}
@@ -77,12 +77,12 @@ shares_end job is m inv all =
 
 -- ---- a share that is lent
 
-pub run_at : (job : Job) → IsPlan job.parts → (m : Machine) → Keeps job m → (ps : List PieceId) → RunsAt job m ps → IsRun (world_at job m) (ends_at job m) (pieces_at job m) (begin job m.batches) m.finished ps
+pub run_at : (job : Job) → IsPlan job.parts → (m : Machine) → Keeps job m → (ps : List PieceId) → RunsAt job m ps → IsShareRun (world_at job m) (ends_at job m) (pieces_at job m) (begin job m.batches) m.finished ps
 run_at job is m inv ps runs = run_law (world_at job m) (numbers_of job.first m.batches) (blocks_in job.parts)
     (needs_plan job.parts is job.first m.batches inv.run_on (in_tables job m inv)) (begin job m.batches) m.finished ps inv.closed runs
 
 pub lent_has_inputs : LentHasInputs
-lent_has_inputs job is m inv ps runs = subst (InputsAtTurns (world_at job m) (ends_at job m) ps) (sym inv.now) (run_at job is m inv ps runs).inputs
+lent_has_inputs job is m inv ps runs = subst (HasInputsAtTurns (world_at job m) (ends_at job m) ps) (sym inv.now) (run_at job is m inv ps runs).inputs
 
 pub any_same : (f g : PieceId → Bool) (ps : List PieceId) → ((p : PieceId) → Mem p ps → f p ≡ g p) → list_any f ps ≡ list_any g ps
 any_same f g [] same = refl
@@ -118,11 +118,11 @@ module _ (job : Job) (is : IsPlan job.parts) (lane : Lane) (share : List PieceId
     stays_on : (p : PieceId) → Mem p share → StaysIn (world_at job m) (ends_at job m) lane p → StaysIn (world_at job n) (ends_at job n) lane p
     stays_on p k stays = (stays.0, λ a t. stays.1 a (ap (λ x. p.block == (world_at job m).home a.0 && covers x a) (sym (load.accesses p (is_old p k))) ∙ t))
 
-    places_same : (c : Location) → is_lent (world_at job n) lane share c ≡ is_lent (world_at job m) lane share c
+    places_same : (c : Location) → is_lent_with (world_at job n) lane share c ≡ is_lent_with (world_at job m) lane share c
     places_same (RowOf a) = refl
     places_same (VarOf t x) = any_same _ _ share (λ p k. ap (λ (os : List NumberedOp). t == p.txn && (used_in os x || defined_in os x)) (load.operations p (is_old p k)))
 
-    values_same : Agree (is_lent (world_at job m) lane share) n.now m.now
+    values_same : Agree (is_lent_with (world_at job m) lane share) n.now m.now
     values_same (RowOf a) k = refl
     values_same (VarOf t x) k =
         let r = any_gives (λ (p : PieceId). t == p.txn && (used_in (ops (world_at job m) p) x || defined_in (ops (world_at job m) p) x)) share k in
@@ -137,9 +137,9 @@ module _ (job : Job) (is : IsPlan job.parts) (lane : Lane) (share : List PieceId
     unfolding apply
     apply_same p k s = ap₂ (λ vars os. run_ops p.txn vars os s) (load.vars p.txn (is_old p k)) (load.operations p (is_old p k))
 
-    does_same : (ps : List PieceId) → ArePart ps share → (s : Present) → applied (world_at job n) ps s ≡ applied (world_at job m) ps s
+    does_same : (ps : List PieceId) → ArePart ps share → (s : Present) → applied_each (world_at job n) ps s ≡ applied_each (world_at job m) ps s
     does_same [] part s = refl
-    does_same (p ∷ ps) part s = does_same ps (λ q k. part q (inr k)) (apply (world_at job n) p s) ∙ ap (applied (world_at job m) ps) (apply_same p (part p (inl refl)) s)
+    does_same (p ∷ ps) part s = does_same ps (λ q k. part q (inr k)) (apply (world_at job n) p s) ∙ ap (applied_each (world_at job m) ps) (apply_same p (part p (inl refl)) s)
 
     pub lent_loaded : StaysLent job lane share m n
     lent_loaded = record {
@@ -201,7 +201,7 @@ return_is_finish job is lane run rest m n inv none lent all given after agree no
       parts.0,
       sym (put_back (world_at job n) (well_formed_plan job.parts is job.first n.batches) (ends_at job n) lane (run ++ rest) run part stays.0.lent.stays given n.now after
           (lent_has_inputs job is n stays.1 run parts.0)
-          (λ c k. let k' : is_lent (world_at job m) lane (run ++ rest) c ≡ true = sym (stays.0.places c) ∙ k in stays.0.same c k' ∙ agree c k')
+          (λ c k. let k' : is_lent_with (world_at job m) lane (run ++ rest) c ≡ true = sym (stays.0.places c) ∙ k in stays.0.same c k' ∙ agree c k')
           no_note
           (subst (λ s. IsPutBack (world_at job n) lane (run ++ rest) s n.now after) (sym (stays.0.does run part given)) put)),
       record {

@@ -17,8 +17,8 @@ use Rattle.pac_commute.proofs.Laws.{laws, says}
 use Rattle.pac_commute.proofs.Present.{same_present}
 use Rattle.pac_commute.proofs.Steps.{same_piece, piece_self, among_mem, mem_among}
 use Rattle.pac_commute.proofs.Theorem.{same_picks}
-use Rattle.pac_lanes.specs.Shares.{applied, adds_all, RunsInOrder, InputsAtTurns}
-use Rattle.pac_lanes.specs.Lanes.{Lane, on_lane, StaysIn, AreDisjoint, is_lent, is_changed, Agree, ArePart, IsPutBack, SharesApart}
+use Rattle.pac_lanes.specs.Shares.{applied_each, adds_all, RunsInOrder, HasInputsAtTurns}
+use Rattle.pac_lanes.specs.Lanes.{Lane, on_lane, StaysIn, AreDisjoint, is_lent_with, is_changed, Agree, ArePart, IsPutBack, SharesApart}
 use Rattle.pac_lanes.proofs.ShareLemmas.{run_law, picks_these}
 
 module _ (w : World) (well_formed : WellFormed w) (env : ℕ → Values) where
@@ -29,7 +29,7 @@ module _ (w : World) (well_formed : WellFormed w) (env : ℕ → Values) where
       (ap lane.blocks (sym (same_number p.block (w.home a.0) (and_left (p.block == w.home a.0) (covers (access w env p) a) t))) ∙ stays.0) (stays.1 a t)
 
   -- what a piece of the share touches is lent
-  touched_lent : (lane : Lane) (share : List PieceId) (p : PieceId) → Mem p share → StaysIn w env lane p → (c : Location) → touches w env p c ≡ true → is_lent w lane share c ≡ true
+  touched_lent : (lane : Lane) (share : List PieceId) (p : PieceId) → Mem p share → StaysIn w env lane p → (c : Location) → touches w env p c ≡ true → is_lent_with w lane share c ≡ true
   touched_lent lane share p m stays (RowOf a) t = home_lane lane p stays a t
   touched_lent lane share p m stays (VarOf u x) t = any_mem (λ (q : PieceId). u == q.txn && (used_in (ops w q) x || defined_in (ops w q) x)) p share m t
 
@@ -53,17 +53,17 @@ module _ (w : World) (well_formed : WellFormed w) (env : ℕ → Values) where
       go c k false e = (laws w well_formed env).kept p s good c e ∙ agree c k ∙ sym ((laws w well_formed env).kept p s' good' c e)
 
   pub alone : (lane : Lane) (share ps : List PieceId) → ArePart ps share → Each (StaysIn w env lane) share
-      → (s s' : Present) → InputsAtTurns w env ps s → Agree (is_lent w lane share) s s'
-      → Agree (is_lent w lane share) (applied w ps s) (applied w ps s') × InputsAtTurns w env ps s'
+      → (s s' : Present) → HasInputsAtTurns w env ps s → Agree (is_lent_with w lane share) s s'
+      → Agree (is_lent_with w lane share) (applied_each w ps s) (applied_each w ps s') × HasInputsAtTurns w env ps s'
   alone lane share [] part stays s s' turns agree = (agree, tt)
   alone lane share (p ∷ ps) part stays s s' turns agree =
       let m = part p (inl refl) in
-      let one = step_both (is_lent w lane share) p (touched_lent lane share p m (mem_each (StaysIn w env lane) share stays p m)) s s' turns.0 agree in
+      let one = step_both (is_lent_with w lane share) p (touched_lent lane share p m (mem_each (StaysIn w env lane) share stays p m)) s s' turns.0 agree in
       let rest = alone lane share ps (λ q n. part q (inr n)) stays (apply w p s) (apply w p s') turns.1 one.0 in
       (rest.0, (one.1, rest.1))
 
   pub leaves_within : (lane : Lane) (share ps : List PieceId) → ArePart ps share → Each (StaysIn w env lane) share
-      → (s : Present) → InputsAtTurns w env ps s → (c : Location) → is_changed w lane share c ≡ false → at_location (applied w ps s) c ≡ at_location s c
+      → (s : Present) → HasInputsAtTurns w env ps s → (c : Location) → is_changed w lane share c ≡ false → at_location (applied_each w ps s) c ≡ at_location s c
   leaves_within lane share [] part stays s turns c out = refl
   leaves_within lane share (p ∷ ps) part stays s turns c out =
       let m = part p (inl refl) in
@@ -71,18 +71,18 @@ module _ (w : World) (well_formed : WellFormed w) (env : ℕ → Values) where
       ∙ (laws w well_formed env).kept p s turns.0 c (unlike _ (λ wr. true≢false (sym (written_changed lane share p m (mem_each (StaysIn w env lane) share stays p m) c wr) ∙ out)))
 
   pub leaves : (lane : Lane) (ps : List PieceId) → Each (StaysIn w env lane) ps
-      → (s : Present) → InputsAtTurns w env ps s → (c : Location) → is_changed w lane ps c ≡ false → at_location (applied w ps s) c ≡ at_location s c
+      → (s : Present) → HasInputsAtTurns w env ps s → (c : Location) → is_changed w lane ps c ≡ false → at_location (applied_each w ps s) c ≡ at_location s c
   leaves lane ps stays = leaves_within lane ps ps (λ p m. m) stays
 
   -- the notes, from any that stood before
   notes_from : (lane : Lane) (share ps : List PieceId) → ArePart ps share → Each (StaysIn w env lane) share
-      → (s s' : Present) (n : Option Note) → InputsAtTurns w env ps s → Agree (is_lent w lane share) s s' → s.note ≡ least n s'.note
-      → (applied w ps s).note ≡ least n (applied w ps s').note
+      → (s s' : Present) (n : Option Note) → HasInputsAtTurns w env ps s → Agree (is_lent_with w lane share) s s' → s.note ≡ least n s'.note
+      → (applied_each w ps s).note ≡ least n (applied_each w ps s').note
   notes_from lane share [] part stays s s' n turns agree e = e
   notes_from lane share (p ∷ ps) part stays s s' n turns agree e =
       let m = part p (inl refl) in
       let inside = touched_lent lane share p m (mem_each (StaysIn w env lane) share stays p m) in
-      let one = step_both (is_lent w lane share) p inside s s' turns.0 agree in
+      let one = step_both (is_lent_with w lane share) p inside s s' turns.0 agree in
       notes_from lane share ps (λ q k. part q (inr k)) stays (apply w p s) (apply w p s') n turns.1 one.0
       ((laws w well_formed env).noted p s
       ∙ ap (λ l. least s.note (first_note l)) ((laws w well_formed env).said_alike p s s' turns.0 (λ c t. agree c (inside c t)))
@@ -91,12 +91,12 @@ module _ (w : World) (well_formed : WellFormed w) (env : ℕ → Values) where
       ∙ ap (least n) (sym ((laws w well_formed env).noted p s')))
 
   pub notes : (lane : Lane) (share ps : List PieceId) → ArePart ps share → Each (StaysIn w env lane) share
-      → (s s' : Present) → InputsAtTurns w env ps s → Agree (is_lent w lane share) s s' → s'.note ≡ None
-      → (applied w ps s).note ≡ least s.note (applied w ps s').note
+      → (s s' : Present) → HasInputsAtTurns w env ps s → Agree (is_lent_with w lane share) s s' → s'.note ≡ None
+      → (applied_each w ps s).note ≡ least s.note (applied_each w ps s').note
   notes lane share ps part stays s s' turns agree none = notes_from lane share ps part stays s s' s.note turns agree (sym (least_none s.note) ∙ ap (least s.note) (sym none))
 
   -- what isn't lent isn't changed
-  pub changed_lent : (lane : Lane) (share : List PieceId) (c : Location) → is_changed w lane share c ≡ true → is_lent w lane share c ≡ true
+  pub changed_lent : (lane : Lane) (share : List PieceId) (c : Location) → is_changed w lane share c ≡ true → is_lent_with w lane share c ≡ true
   changed_lent lane share (RowOf a) e = e
   changed_lent lane share (VarOf u x) e =
       let r = any_gives (λ (p : PieceId). u == p.txn && defined_in (ops w p) x) share e in
@@ -104,13 +104,13 @@ module _ (w : World) (well_formed : WellFormed w) (env : ℕ → Values) where
       (and_both (u == r.0.txn) _ (and_left (u == r.0.txn) (defined_in (ops w r.0) x) r.2) (or_right (used_in (ops w r.0) x) _ (and_right (u == r.0.txn) (defined_in (ops w r.0) x) r.2)))
 
   pub put_back : (lane : Lane) (share ps : List PieceId) → ArePart ps share → Each (StaysIn w env lane) share
-      → (lent before after : Present) → InputsAtTurns w env ps before → Agree (is_lent w lane share) before lent → lent.note ≡ None
-      → IsPutBack w lane share (applied w ps lent) before after → after ≡ applied w ps before
-  put_back lane share ps part stays lent before after turns agree none put = same_present after (applied w ps before)
+      → (lent before after : Present) → HasInputsAtTurns w env ps before → Agree (is_lent_with w lane share) before lent → lent.note ≡ None
+      → IsPutBack w lane share (applied_each w ps lent) before after → after ≡ applied_each w ps before
+  put_back lane share ps part stays lent before after turns agree none put = same_present after (applied_each w ps before)
       (λ c. go c (is_changed w lane share c) refl)
       (put.note ∙ sym (notes lane share ps part stays before lent turns agree none))
     where
-      go : (c : Location) (b : Bool) → is_changed w lane share c ≡ b → at_location after c ≡ at_location (applied w ps before) c
+      go : (c : Location) (b : Bool) → is_changed w lane share c ≡ b → at_location after c ≡ at_location (applied_each w ps before) c
       go c true e = put.inside c e ∙ sym ((alone lane share ps part stays before lent turns agree).0 c (changed_lent lane share c e))
       go c false e = put.outside c e ∙ sym (leaves_within lane share ps part stays before turns c e)
 
@@ -143,13 +143,13 @@ module _ (w : World) (well_formed : WellFormed w) (env : ℕ → Values) where
 
   pub spares : (L : List PieceId) (lane other : Lane) → AreDisjoint w lane other → (F : PieceId → Bool) (ps : List PieceId) → Each (StaysIn w env lane) ps → RunsInOrder w env L F ps
       → (q : PieceId) → Mem q L → F q ≡ false → among ps q ≡ false → StaysIn w env other q
-      → ((s : Present) → HasInputs w env q s → Agree (is_lent w lane ps) (apply w q s) s) × RunsInOrder w env L (adds F q) ps
+      → ((s : Present) → HasInputs w env q s → Agree (is_lent_with w lane ps) (apply w q s) s) × RunsInOrder w env L (adds F q) ps
   spares L lane other disjoint F ps stays runs q mq out not_of stays_q = (
     λ s good c k. (laws w well_formed env).kept q s good c (unlike _ (λ wr. untouched c k wr)),
     runs_more L q ps F (adds F q) not_of (λ r f. or_right (is_piece q r) (F r) f) (λ r h. ⊎_elim (λ e. inr e) (λ f. inl f) (or_cases (is_piece q r) (F r) h)) runs,
   )
     where
-      untouched : (c : Location) → is_lent w lane ps c ≡ true → writes w env q c ≡ true → ⊥
+      untouched : (c : Location) → is_lent_with w lane ps c ≡ true → writes w env q c ≡ true → ⊥
       untouched (RowOf a) k wr = true≢false (sym (home_lane other q stays_q a ((laws w well_formed env).within q (RowOf a) wr)) ∙ disjoint a k)
       untouched (VarOf u x) k wr = ⊎_elim
           (λ us. ⊎_elim same (λ edge. ⊎_elim (λ f. true≢false (sym f ∙ out)) (λ f. true≢false (sym f ∙ not_of))
@@ -176,8 +176,8 @@ module _ (w : World) (well_formed : WellFormed w) (env : ℕ → Values) where
   -- so do all pieces of a share of another lane
   pub others_spare : (L : List PieceId) (lane other : Lane) → AreDisjoint w lane other → (ps : List PieceId) → Each (StaysIn w env lane) ps
       → (F : PieceId → Bool) (qs : List PieceId) (s : Present) → ((q : PieceId) → Mem q qs → among ps q ≡ false) → Each (StaysIn w env other) qs
-      → RunsInOrder w env L F ps → RunsInOrder w env L F qs → InputsAtTurns w env qs s
-      → Agree (is_lent w lane ps) (applied w qs s) s × RunsInOrder w env L (adds_all F qs) ps
+      → RunsInOrder w env L F ps → RunsInOrder w env L F qs → HasInputsAtTurns w env qs s
+      → Agree (is_lent_with w lane ps) (applied_each w qs s) s × RunsInOrder w env L (adds_all F qs) ps
   others_spare L lane other disjoint ps stays F [] s apart stays' runs runs' turns = (λ c k. refl, runs)
   others_spare L lane other disjoint ps stays F (q ∷ qs) s apart stays' runs runs' turns =
       let one = spares L lane other disjoint F ps stays runs q runs'.0 runs'.1 (apart q (inl refl)) stays'.0 in
@@ -204,14 +204,14 @@ module _ (w : World) (well_formed : WellFormed w) (ts bs : List ℕ) (exchange :
       → (lane other : Lane) → AreDisjoint w lane other → (ps qs : List PieceId) → ((q : PieceId) → Mem q qs → among ps q ≡ false)
       → Each (StaysIn w (env_after w ts s) lane) ps → Each (StaysIn w (env_after w ts s) other) qs
       → RunsInOrder w (env_after w ts s) (pieces w ts bs) F ps → RunsInOrder w (env_after w ts s) (pieces w ts bs) F qs
-      → Agree (is_lent w lane ps) (applied w qs (partial w F (pieces w ts bs) s)) (partial w F (pieces w ts bs) s)
+      → Agree (is_lent_with w lane ps) (applied_each w qs (partial w F (pieces w ts bs) s)) (partial w F (pieces w ts bs) s)
       × RunsInOrder w (env_after w ts s) (pieces w ts bs) (adds_all F qs) ps
-      × (applied w ps (applied w qs (partial w F (pieces w ts bs) s)) ≡ partial w (adds_all (adds_all F qs) ps) (pieces w ts bs) s)
+      × (applied_each w ps (applied_each w qs (partial w F (pieces w ts bs) s)) ≡ partial w (adds_all (adds_all F qs) ps) (pieces w ts bs) s)
   second_first s F holds lane other disjoint ps qs apart stays stays' runs runs' =
       let run = run_law w ts bs exchange s F qs holds runs' in
       let spared = others_spare w well_formed (env_after w ts s) (pieces w ts bs) lane other disjoint ps stays F qs (partial w F (pieces w ts bs) s) apart stays' runs runs' run.inputs in
       let next = run_law w ts bs exchange s (adds_all F qs) ps run.needs spared.1 in
-      (spared.0, spared.1, ap (applied w ps) (sym run.ends) ∙ sym next.ends)
+      (spared.0, spared.1, ap (applied_each w ps) (sym run.ends) ∙ sym next.ends)
 
   pub shares_apart : SharesApart w ts bs
   shares_apart s F holds lane other disjoint ps qs apart stays stays' runs runs' =

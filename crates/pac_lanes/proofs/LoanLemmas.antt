@@ -27,8 +27,8 @@ use Rattle.pac_commute.proofs.Steps.{among_mem, mem_among, opens}
 use Rattle.pac_commute.proofs.Theorem.{in_order}
 use Rattle.pac_plan.proofs.WorldLemmas.{rises-range}
 use Rattle.pac_base.proofs.TestLemmas.{or_left, or_right, or_cases, or_none, same_number, equal_number, and_left, and_right, and_both, unlike, any_gives, each_mem, mem_each}
-use Rattle.pac_lanes.specs.Shares.{applied, RunsInOrder, InputsAtTurns, PieceCode, codes_of}
-use Rattle.pac_lanes.specs.Lanes.{StaysIn, is_lent, is_changed, Agree, ArePart}
+use Rattle.pac_lanes.specs.Shares.{applied_each, RunsInOrder, HasInputsAtTurns, PieceCode, codes_of}
+use Rattle.pac_lanes.specs.Lanes.{StaysIn, is_lent_with, is_changed, Agree, ArePart}
 use Rattle.pac_lanes.specs.Rounds.{is_of}
 use Rattle.pac_lanes.specs.Stays.{lane_of}
 use Rattle.pac_commute.specs.Machine.{Keeps}
@@ -89,7 +89,7 @@ runs_new w env L F (q ∷ ps) runs p (inl same) = ap F same ∙ runs.1
 runs_new w env L F (q ∷ ps) runs p (inr m) = (or_none (is_piece q p) (F p) (runs_new w env L (adds F q) ps runs.3 p m)).1
 
 module _ (w : World) (well_formed : WellFormed w) (env : ℕ → Values) (L : List PieceId) (F : PieceId → Bool) where
-  lent_at_home : (l k : Loan) → LoanApart w l k → RunsInOrder w env L F l.share → RunsInOrder w env L F k.share → (c : Location) → is_lent w l.lane l.share c ≡ true → is_changed w k.lane k.share c ≡ true → ⊥
+  lent_at_home : (l k : Loan) → LoanApart w l k → RunsInOrder w env L F l.share → RunsInOrder w env L F k.share → (c : Location) → is_lent_with w l.lane l.share c ≡ true → is_changed w k.lane k.share c ≡ true → ⊥
   lent_at_home l k apart runs runs' (RowOf a) e f = true≢false (sym f ∙ apart.0 a e)
   lent_at_home l k apart runs runs' (VarOf t x) e f = go (any_gives (λ (p : PieceId). t == p.txn && (used_in (ops w p) x || defined_in (ops w p) x)) l.share e) (any_gives (λ (q : PieceId). t == q.txn && defined_in (ops w q) x) k.share f)
     where
@@ -146,7 +146,7 @@ load_keeps_home job is m home loans keeps batch next fits = record {
     new_loan l loan = record {
       lent = (stays l loan).lent;
       code = loan.code ∙ codes_same l.share (λ p k. is_old job is l.lane l.share m keeps.keeps loan.lent batch next fits p k);
-      held = λ c k. let k' : is_lent (world_at job m) l.lane l.share c ≡ true = sym ((stays l loan).places c) ∙ k in (stays l loan).same c k' ∙ loan.held c k';
+      held = λ c k. let k' : is_lent_with (world_at job m) l.lane l.share c ≡ true = sym ((stays l loan).places c) ∙ k in (stays l loan).same c k' ∙ loan.held c k';
       noteless = loan.noteless;
     }
 
@@ -177,7 +177,7 @@ lend_keeps_home job is m home loans keeps loan lent apart code held noteless = r
   note = keeps.note;
 }
   where
-    there : (c : Location) → is_lent (world_at job m) loan.lane loan.share c ≡ true → is_away (world_at job m) loans c ≡ false
+    there : (c : Location) → is_lent_with (world_at job m) loan.lane loan.share c ≡ true → is_away (world_at job m) loans c ≡ false
     there c k = unlike _ (λ away. go (any_gives (λ (l : Loan). is_changed (world_at job m) l.lane l.share c) loans away))
       where
         go : (l : Loan) × Mem l loans × (is_changed (world_at job m) l.lane l.share c ≡ true) → ⊥
@@ -201,7 +201,7 @@ return_keeps_home job is m home before loan after keeps run rest split home' put
   each = each_two (LoanApart w loan) (IsLoan job m) (IsLoan job (after_share job m run)) (before ++ after) (λ k apart is_k. beside k apart is_k) apart_all.0 loans.1;
   apart = apart_all.1;
   at_home = λ c e. back c e (is_changed w loan.lane loan.share c) refl;
-  note = put.note ∙ ap (λ n. least n (applied w run loan.given).note) keeps.note ∙ sym (notes w well_formed env loan.lane loan.share run part mine.lent.stays m.now loan.given inputs mine.held mine.noteless);
+  note = put.note ∙ ap (λ n. least n (applied_each w run loan.given).note) keeps.note ∙ sym (notes w well_formed env loan.lane loan.share run part mine.lent.stays m.now loan.given inputs mine.held mine.noteless);
 }
   where
     w : World
@@ -229,7 +229,7 @@ return_keeps_home job is m home before loan after keeps run rest split home' put
     runs = ((may_be_parted (world_at job m) (ends_at job m) (pieces_at job m) m.finished run rest).0.0
         (subst (λ ps. RunsInOrder (world_at job m) (ends_at job m) (pieces_at job m) m.finished ps) split mine.lent.runs)).0
 
-    inputs : InputsAtTurns (world_at job m) (ends_at job m) run m.now
+    inputs : HasInputsAtTurns (world_at job m) (ends_at job m) run m.now
     inputs = lent_has_inputs job is m keeps.keeps run runs
 
     all : Keeps job (after_share job m run) × NothingOut (after_share job m run)
@@ -245,7 +245,7 @@ return_keeps_home job is m home before loan after keeps run rest split home' put
         ) in
         record { lent = stays.lent; code = is_k.code; held = λ c e. stays.same c e ∙ is_k.held c e; noteless = is_k.noteless }
 
-    back : (c : Location) → is_away (world_at job m) (before ++ after) c ≡ false → (b : Bool) → is_changed (world_at job m) loan.lane loan.share c ≡ b → at_location home' c ≡ at_location (applied (world_at job m) run m.now) c
+    back : (c : Location) → is_away (world_at job m) (before ++ after) c ≡ false → (b : Bool) → is_changed (world_at job m) loan.lane loan.share c ≡ b → at_location home' c ≡ at_location (applied_each (world_at job m) run m.now) c
     back c e true k = put.inside c k ∙ sym ((alone w well_formed env loan.lane loan.share run part mine.lent.stays m.now loan.given inputs mine.held).0 c (changed_lent w well_formed env loan.lane loan.share c k))
     back c e false k = put.outside c k ∙ keeps.at_home c (away_others w before loan after c e k) ∙ sym (leaves_within w well_formed env loan.lane loan.share run part mine.lent.stays m.now inputs c k)
 
@@ -323,7 +323,7 @@ mixed parts w places a b c fit_a fit_b inside outside = record {
 
 pub loan_fits : LoanFits
 loan_fits job is rows m home loans keeps loan ml fit run rest split =
-    mixed job.parts (world_at job m) (is_changed (world_at job m) loan.lane loan.share) (applied (world_at job m) run m.now) loan.given (applied (world_at job m) run loan.given) stands fit
+    mixed job.parts (world_at job m) (is_changed (world_at job m) loan.lane loan.share) (applied_each (world_at job m) run m.now) loan.given (applied_each (world_at job m) run loan.given) stands fit
     (λ c k. sym (both.0 c (changed_lent (world_at job m) well_formed (ends_at job m) loan.lane loan.share c k)))
     (λ c k. leaves_within (world_at job m) well_formed (ends_at job m) loan.lane loan.share run part mine.lent.stays loan.given both.1 c k)
   where
@@ -340,13 +340,13 @@ loan_fits job is rows m home loans keeps loan ml fit run rest split =
     runs = ((may_be_parted (world_at job m) (ends_at job m) (pieces_at job m) m.finished run rest).0.0
         (subst (λ ps. RunsInOrder (world_at job m) (ends_at job m) (pieces_at job m) m.finished ps) split mine.lent.runs)).0
 
-    both : Agree (is_lent (world_at job m) loan.lane loan.share) (applied (world_at job m) run m.now) (applied (world_at job m) run loan.given) × InputsAtTurns (world_at job m) (ends_at job m) run loan.given
+    both : Agree (is_lent_with (world_at job m) loan.lane loan.share) (applied_each (world_at job m) run m.now) (applied_each (world_at job m) run loan.given) × HasInputsAtTurns (world_at job m) (ends_at job m) run loan.given
     both = alone (world_at job m) well_formed (ends_at job m) loan.lane loan.share run part mine.lent.stays m.now loan.given (lent_has_inputs job is m keeps.keeps run runs) mine.held
 
     next : Keeps job (after_share job m run)
     next = (step_keeps job is Any (Finished m run runs tt) keeps.keeps keeps.in_hand).0
 
-    stands : PresentFits job.parts (world_at job m) (applied (world_at job m) run m.now)
+    stands : PresentFits job.parts (world_at job m) (applied_each (world_at job m) run m.now)
     stands = subst (PresentFits job.parts (world_at job m)) (sym next.now)
         (partial_stays_fit job.parts is job.first m.batches next.run_on next.fit job.tables rows (after_share job m run).finished next.closed).0
 

@@ -13,7 +13,7 @@ use Rattle.pac_commute.proofs.Steps.{same_piece, piece_self, among_mem, mem_amon
 use Rattle.pac_commute.specs.Machine.{among}
 use Rattle.pac_lanes.proofs.ShareLemmas.{picks_these}
 use Rattle.pac_lanes.specs.Shares.{adds_all, RunsInOrder}
-use Rattle.pac_lanes.specs.Rounds.{rest_of, HoldTogether, Cut, IsCut, is_of, MayBeLent, first_left, NotAfter, IsFirstLeft}
+use Rattle.pac_lanes.specs.Rounds.{rest_of, HoldTogether, StageCut, IsCut, is_of, MayBeLent, first_left, NotAfter, IsFirstUnfinished}
 
 three : (a b : ℕ) → (a < b) ⊎ ((a ≡ b) ⊎ (b < a))
 three a b = grind arith
@@ -84,7 +84,7 @@ module _ (w : World) (well_formed : WellFormed w) (env : ℕ → Values) where
 
   -- ---- a round, a stage and a group
 
-  pub share_ready : (L : List PieceId) → InOrder L → (cut : Cut) → IsCut w env L cut → (F : PieceId → Bool) (r k g : ℕ) → MayBeLent L cut F r k g → RunsInOrder w env L F (rest_of L F (is_of cut r k g))
+  pub share_ready : (L : List PieceId) → InOrder L → (cut : StageCut) → IsCut w env L cut → (F : PieceId → Bool) (r k g : ℕ) → MayBeLent L cut F r k g → RunsInOrder w env L F (rest_of L F (is_of cut r k g))
   share_ready L order cut is F r k g may = rest_runs L F (is_of cut r k g) together order
     where
       together : HoldTogether w env L F (is_of cut r k g)
@@ -139,7 +139,7 @@ module _ (w : World) (well_formed : WellFormed w) (env : ℕ → Values) where
 
   -- the first of the list
   first_here : (L : List PieceId) (F : PieceId → Bool) (ps : List PieceId) → InOrder ps → ((p : PieceId) → Mem p ps → Mem p L)
-      → ((q : PieceId) → Mem q L → F q ≡ false → Mem q ps) → IsFirstLeft w env L F (first_left ps F)
+      → ((q : PieceId) → Mem q L → F q ≡ false → Mem q ps) → IsFirstUnfinished w env L F (first_left ps F)
   first_here L F [] order inside rest = λ q m. yes q m (F q) refl
     where
       yes : (q : PieceId) → Mem q L → (b : Bool) → F q ≡ b → F q ≡ true
@@ -147,8 +147,8 @@ module _ (w : World) (well_formed : WellFormed w) (env : ℕ → Values) where
       yes q m false h = absurd (rest q m h)
   first_here L F (p ∷ ps) order inside rest = go (first_here L F ps) (F p) refl
     where
-      go : (InOrder ps → ((p : PieceId) → Mem p ps → Mem p L) → ((q : PieceId) → Mem q L → F q ≡ false → Mem q ps) → IsFirstLeft w env L F (first_left ps F))
-          → (b : Bool) → F p ≡ b → IsFirstLeft w env L F (cond b (first_left ps F) (Some p))
+      go : (InOrder ps → ((p : PieceId) → Mem p ps → Mem p L) → ((q : PieceId) → Mem q L → F q ≡ false → Mem q ps) → IsFirstUnfinished w env L F (first_left ps F))
+          → (b : Bool) → F p ≡ b → IsFirstUnfinished w env L F (cond b (first_left ps F) (Some p))
       go more true e = more order.1 (λ q m. inside q (inr m)) (λ q mq f. ⊎_elim (λ same. absurd (true≢false (sym e ∙ sym (ap F same) ∙ f))) (λ k. k) (rest q mq f))
       go more false e = (
         inside p (inl refl),
@@ -168,7 +168,7 @@ module _ (w : World) (well_formed : WellFormed w) (env : ℕ → Values) where
           yes q mq n true h = h
           yes q mq n false h = ⊎_elim (λ same. absurd (never_self q p same (needed_below q p n))) (λ k. absurd (never_below p q (mem_each (Below p) ps order.0 q k) (needed_below q p n))) (rest q mq h)
 
-  pub first_has_needs : (L : List PieceId) → InOrder L → (F : PieceId → Bool) → IsFirstLeft w env L F (first_left L F)
+  pub first_has_needs : (L : List PieceId) → InOrder L → (F : PieceId → Bool) → IsFirstUnfinished w env L F (first_left L F)
   first_has_needs L order F = first_here L F L order (λ p m. m) (λ q m f. m)
 
 -- ---- what is in once a share is
@@ -293,7 +293,7 @@ module _ (f : PieceId → ℕ) (test : PieceId → Bool) where
   pub least_of : (L : List PieceId) (q : PieceId) → Mem q L → test q ≡ true → LeastBy L
   least_of L q m t = ⊎_elim (λ none. absurd (true≢false (sym t ∙ none q m))) (λ l. l) (least_by L)
 
-pub some_lent : (w : World) (env : ℕ → Values) (L : List PieceId) (cut : Cut) → IsCut w env L cut → (F : PieceId → Bool) (q : PieceId) → Mem q L → F q ≡ false
+pub some_lent : (w : World) (env : ℕ → Values) (L : List PieceId) (cut : StageCut) → IsCut w env L cut → (F : PieceId → Bool) (q : PieceId) → Mem q L → F q ≡ false
     → (p : PieceId) × Mem p L × (F p ≡ false) × MayBeLent L cut F (cut.round p.txn) (cut.stage p.block) (cut.group (cut.stage p.block) p.txn)
 some_lent w env L cut is F q mq out = second (least_of (λ p. cut.round p.txn) (λ p. not (F p)) L q mq (ap not out))
   where

@@ -10,7 +10,7 @@ use Rattle.pac_commute.specs.Machine.{among}
 use Rattle.pac_commute.proofs.PlanFacts.{needs_plan}
 use Rattle.pac_commute.proofs.Steps.{same_piece}
 use Rattle.pac_base.proofs.TestLemmas.{or_right, or_cases}
-use Rattle.pac_lanes.specs.Shares.{applied, adds_all, HasNeeds, RunsInOrder, InputsAtTurns, ShareIsPartial, PicksThese, MayBeParted, AppliedIsCode, AppliedIsEvery}
+use Rattle.pac_lanes.specs.Shares.{applied_each, adds_all, HasNeeds, RunsInOrder, HasInputsAtTurns, ShareIsPartial, PicksThese, MayBeParted, AppliedIsCode, AppliedIsEvery}
 
 -- F and p hold what each of their pieces needs
 pub holds_more : (w : World) (env : ℕ → Values) (L : List PieceId) (F : PieceId → Bool) (p : PieceId) → HoldsNeeds w env L F → HasNeeds w env L F p → HoldsNeeds w env L (adds F p)
@@ -25,9 +25,9 @@ run_law w ts bs exchange s F (p ∷ ps) holds runs =
     let one = exchange s F p runs.0 runs.1 holds runs.2 in
     let rest = run_law w ts bs exchange s (adds F p) ps (holds_more w (env_after w ts s) (pieces w ts bs) F p holds runs.2) runs.3 in
     record {
-      ends = rest.ends ∙ ap (applied w ps) one.0;
+      ends = rest.ends ∙ ap (applied_each w ps) one.0;
       needs = rest.needs;
-      inputs = (one.1, subst (InputsAtTurns w (env_after w ts s) ps) one.0 rest.inputs);
+      inputs = (one.1, subst (HasInputsAtTurns w (env_after w ts s) ps) one.0 rest.inputs);
     }
 
 pub share_is_partial : OfPlan ShareIsPartial
@@ -54,7 +54,7 @@ joined_runs : (w : World) (env : ℕ → Values) (L : List PieceId) (F : PieceId
 joined_runs w env L F [] qs r r' = r'
 joined_runs w env L F (p ∷ ps) qs r r' = (r.0, r.1, r.2, joined_runs w env L (adds F p) ps qs r.3 r')
 
-applied_parted : (w : World) (ps qs : List PieceId) (s : Present) → applied w (ps ++ qs) s ≡ applied w qs (applied w ps s)
+applied_parted : (w : World) (ps qs : List PieceId) (s : Present) → applied_each w (ps ++ qs) s ≡ applied_each w qs (applied_each w ps s)
 applied_parted w [] qs s = refl
 applied_parted w (p ∷ ps) qs s = applied_parted w ps qs (apply w p s)
 

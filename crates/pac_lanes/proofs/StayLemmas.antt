@@ -27,7 +27,7 @@ use Rattle.pac_ops.proofs.EffectLemmas.{named, touched-named, key_uses, key-kind
 use Rattle.pac_plan.proofs.AccessLemmas.{bounded-uses}
 use Rattle.pac_commute.proofs.Law.{undefined_stays, other_stays}
 use Rattle.pac_lanes.specs.Lanes.{StaysIn}
-use Rattle.pac_lanes.specs.Rounds.{Cut}
+use Rattle.pac_lanes.specs.Rounds.{StageCut}
 use Rattle.pac_lanes.specs.Stays.{WholeStays, KeysAre, OneKeyStays, KeyFromInputs, KeyFromArguments, lane_of, IsOfGroup, StaysInGroup, GroupsAreApart, LanesAreDisjoint, GroupsGiveCut}
 
 pub whole_stays : (w : World) → WholeStays w
@@ -116,7 +116,7 @@ key_from_arguments w ts bs s t e free = ap (λ (r : Result Value Trap). r >>= λ
 
 -- ---- the lanes of a cut
 
-module _ (w : World) (env : ℕ → Values) (cut : Cut) (of_key : ℕ → Key → ℕ) (p : PieceId) where
+module _ (w : World) (env : ℕ → Values) (cut : StageCut) (of_key : ℕ → Key → ℕ) (p : PieceId) where
   abbrev k : ℕ
   k = cut.stage p.block
 

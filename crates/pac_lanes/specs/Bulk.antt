@@ -4,7 +4,7 @@ use Rattle.pac_value.specs.Expressions.{Values}
 use Rattle.pac_ops.specs.declared.piece.PieceId.{PieceId}
 use Rattle.pac_base.specs.Members.{Mem, Rises}
 use Rattle.pac_plan.specs.Pieces.{Present, World, pieces, replayed_in}
-use Rattle.pac_lanes.specs.Shares.{applied, RunsInOrder}
+use Rattle.pac_lanes.specs.Shares.{applied_each, RunsInOrder}
 
 -- some of the transactions, in order: nothing of them is finished, and of earlier ones all that isn't among them
 pub record MayRunWhole (w : World) (ts bs : List ℕ) (F : PieceId → Bool) (now : List ℕ) : Type 0 where
@@ -19,4 +19,4 @@ BulkRuns w ts bs = (env : ℕ → Values) (F : PieceId → Bool) (now : List ℕ
 
 -- and that is to run the operations of each through
 abbrev pub BulkIsFlat : World → List ℕ → List ℕ → Type 0
-BulkIsFlat w ts bs = (now : List ℕ) → ((t : ℕ) → Mem t now → Mem t ts) → (s : Present) → applied w (pieces w now bs) s ≡ replayed_in w now s
+BulkIsFlat w ts bs = (now : List ℕ) → ((t : ℕ) → Mem t now → Mem t ts) → (s : Present) → applied_each w (pieces w now bs) s ≡ replayed_in w now s

@@ -11,8 +11,8 @@ use Rattle.pac_commute.specs.PlanLaws.{txns_of}
 use Rattle.pac_commute.specs.PartialFits.{TxnsFitPlan}
 use Rattle.pac_commute.specs.Loads.{Job, begin, next_in_job, loaded, and_batch}
 use Rattle.pac_commute.specs.Machine.{Machine, among, opening_machine, world_at, pieces_at, ends_at}
-use Rattle.pac_lanes.specs.Shares.{adds_all, applied, RunsInOrder, InputsAtTurns}
-use Rattle.pac_lanes.specs.Lanes.{Lane, StaysIn, AreDisjoint, is_lent, Agree, ArePart, IsPutBack}
+use Rattle.pac_lanes.specs.Shares.{adds_all, applied_each, RunsInOrder, HasInputsAtTurns}
+use Rattle.pac_lanes.specs.Lanes.{Lane, StaysIn, AreDisjoint, is_lent_with, Agree, ArePart, IsPutBack}
 use Rattle.pac_commute.specs.Machine.{MayBeTaken, StepsBy, Keeps}
 
 -- ---- steps
@@ -23,7 +23,7 @@ NothingOut m = (p : PieceId) → m.out p ≡ false
 
 -- the machine once these are
 abbrev pub after_share : Job → Machine → List PieceId → Machine
-after_share job m ps = record m { finished = adds_all m.finished ps; now = applied (world_at job m) ps m.now }
+after_share job m ps = record m { finished = adds_all m.finished ps; now = applied_each (world_at job m) ps m.now }
 
 -- these run in order from what is finished
 abbrev pub RunsAt : Job → Machine → List PieceId → Type 0
@@ -81,7 +81,7 @@ pub record IsLent (job : Job) (m : Machine) (lane : Lane) (share : List PieceId)
 
 -- its pieces find their inputs at their turns
 abbrev pub LentHasInputs : Type 0
-LentHasInputs = (job : Job) → IsPlan job.parts → (m : Machine) → Keeps job m → (ps : List PieceId) → RunsAt job m ps → InputsAtTurns (world_at job m) (ends_at job m) ps m.now
+LentHasInputs = (job : Job) → IsPlan job.parts → (m : Machine) → Keeps job m → (ps : List PieceId) → RunsAt job m ps → HasInputsAtTurns (world_at job m) (ends_at job m) ps m.now
 
 -- pieces that may be finished beside it: they stay in a lane that is disjoint from its own, and none is of the share
 abbrev pub Beside : Job → Lane → List PieceId → Machine → List PieceId → Type 0
@@ -90,9 +90,9 @@ Beside job lane share m qs = (other : Lane) × AreDisjoint (world_at job m) lane
 -- it is lent still, its lane and its variables are the same places, with what stood there, and its pieces do what they did
 pub record StaysLent (job : Job) (lane : Lane) (share : List PieceId) (m n : Machine) : Type 0 where
   pub lent : IsLent job n lane share
-  pub places : (c : Location) → is_lent (world_at job n) lane share c ≡ is_lent (world_at job m) lane share c
-  pub same : Agree (is_lent (world_at job m) lane share) n.now m.now
-  pub does : (ps : List PieceId) → ArePart ps share → (s : Present) → applied (world_at job n) ps s ≡ applied (world_at job m) ps s
+  pub places : (c : Location) → is_lent_with (world_at job n) lane share c ≡ is_lent_with (world_at job m) lane share c
+  pub same : Agree (is_lent_with (world_at job m) lane share) n.now m.now
+  pub does : (ps : List PieceId) → ArePart ps share → (s : Present) → applied_each (world_at job n) ps s ≡ applied_each (world_at job m) ps s
 
 -- whatever is loaded and finished beside it
 abbrev pub LentStays : Type 0
@@ -103,6 +103,6 @@ LentStays = (job : Job) → IsPlan job.parts → (lane : Lane) (share : List Pie
 abbrev pub ReturnIsFinish : Type 0
 ReturnIsFinish = (job : Job) → IsPlan job.parts → (lane : Lane) (run rest : List PieceId) (m n : Machine) → Keeps job m → NothingOut m → IsLent job m lane (run ++ rest)
     → ShareSteps job (Beside job lane (run ++ rest)) m n
-    → (lent after : Present) → Agree (is_lent (world_at job m) lane (run ++ rest)) m.now lent → lent.note ≡ None
-    → IsPutBack (world_at job n) lane (run ++ rest) (applied (world_at job m) run lent) n.now after
+    → (lent after : Present) → Agree (is_lent_with (world_at job m) lane (run ++ rest)) m.now lent → lent.note ≡ None
+    → IsPutBack (world_at job n) lane (run ++ rest) (applied_each (world_at job m) run lent) n.now after
     → RunsAt job n run × ((after_share job n run).now ≡ after) × IsLent job (after_share job n run) lane rest

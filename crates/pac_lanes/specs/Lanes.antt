@@ -10,7 +10,7 @@ use Rattle.pac_base.specs.Members.{Each, Mem}
 use Rattle.pac_plan.specs.Pieces.{Present, World, ops, apply, partial, pieces, HasInputs, adds, Location, RowOf, VarOf, at_location, touches}
 use Rattle.pac_commute.specs.Exchange.{env_after, HoldsNeeds}
 use Rattle.pac_commute.specs.Machine.{among}
-use Rattle.pac_lanes.specs.Shares.{applied, adds_all, RunsInOrder, InputsAtTurns}
+use Rattle.pac_lanes.specs.Shares.{applied_each, adds_all, RunsInOrder, HasInputsAtTurns}
 
 -- ---- lanes
 
@@ -34,9 +34,9 @@ AreDisjoint w lane other = (a : Cell) → on_lane w lane a ≡ true → on_lane 
 -- ---- what is lent with a share
 
 -- the rows of the lane, and the variables that its pieces use or define
-abbrev pub is_lent : World → Lane → List PieceId → Location → Bool
-is_lent w lane ps (RowOf a) = on_lane w lane a
-is_lent w lane ps (VarOf t x) = list_any (λ p. t == p.txn && (used_in (ops w p) x || defined_in (ops w p) x)) ps
+abbrev pub is_lent_with : World → Lane → List PieceId → Location → Bool
+is_lent_with w lane ps (RowOf a) = on_lane w lane a
+is_lent_with w lane ps (VarOf t x) = list_any (λ p. t == p.txn && (used_in (ops w p) x || defined_in (ops w p) x)) ps
 
 -- of these, what may change: the rows, and the variables that the pieces define
 abbrev pub is_changed : World → Lane → List PieceId → Location → Bool
@@ -56,19 +56,19 @@ ArePart ps share = (p : PieceId) → Mem p ps → Mem p share
 -- what pieces of a share leave on the lane and in its variables depends on what stood there alone, and so does that they find their inputs
 abbrev pub ShareAlone : World → Type 0
 ShareAlone w = (env : ℕ → Values) (lane : Lane) (share ps : List PieceId) → ArePart ps share → Each (StaysIn w env lane) share
-    → (s s' : Present) → InputsAtTurns w env ps s → Agree (is_lent w lane share) s s'
-    → Agree (is_lent w lane share) (applied w ps s) (applied w ps s') × InputsAtTurns w env ps s'
+    → (s s' : Present) → HasInputsAtTurns w env ps s → Agree (is_lent_with w lane share) s s'
+    → Agree (is_lent_with w lane share) (applied_each w ps s) (applied_each w ps s') × HasInputsAtTurns w env ps s'
 
 -- they change nothing but rows of the lane and the variables that they define
 abbrev pub ShareLeaves : World → Type 0
 ShareLeaves w = (env : ℕ → Values) (lane : Lane) (ps : List PieceId) → Each (StaysIn w env lane) ps
-    → (s : Present) → InputsAtTurns w env ps s → (c : Location) → is_changed w lane ps c ≡ false → at_location (applied w ps s) c ≡ at_location s c
+    → (s : Present) → HasInputsAtTurns w env ps s → (c : Location) → is_changed w lane ps c ≡ false → at_location (applied_each w ps s) c ≡ at_location s c
 
 -- the notes that they leave are those that they leave where nothing but the lane and the variables is there
 abbrev pub ShareNotes : World → Type 0
 ShareNotes w = (env : ℕ → Values) (lane : Lane) (share ps : List PieceId) → ArePart ps share → Each (StaysIn w env lane) share
-    → (s s' : Present) → InputsAtTurns w env ps s → Agree (is_lent w lane share) s s' → s'.note ≡ None
-    → (applied w ps s).note ≡ least s.note (applied w ps s').note
+    → (s s' : Present) → HasInputsAtTurns w env ps s → Agree (is_lent_with w lane share) s s' → s'.note ≡ None
+    → (applied_each w ps s).note ≡ least s.note (applied_each w ps s').note
 
 -- the rows of the lane and the variables that the share defines stand as they were made, the rest as it was, and the least note
 pub record IsPutBack (w : World) (lane : Lane) (share : List PieceId) (made before after : Present) : Type 0 where
@@ -79,8 +79,8 @@ pub record IsPutBack (w : World) (lane : Lane) (share : List PieceId) (made befo
 -- so what pieces of a share made of what was lent, put back, is these pieces applied
 abbrev pub PutBackIsApplied : World → Type 0
 PutBackIsApplied w = (env : ℕ → Values) (lane : Lane) (share ps : List PieceId) → ArePart ps share → Each (StaysIn w env lane) share
-    → (lent before after : Present) → InputsAtTurns w env ps before → Agree (is_lent w lane share) before lent → lent.note ≡ None
-    → IsPutBack w lane share (applied w ps lent) before after → after ≡ applied w ps before
+    → (lent before after : Present) → HasInputsAtTurns w env ps before → Agree (is_lent_with w lane share) before lent → lent.note ≡ None
+    → IsPutBack w lane share (applied_each w ps lent) before after → after ≡ applied_each w ps before
 
 -- ---- two shares
 
@@ -90,15 +90,15 @@ abbrev pub PieceSpares : World → Type 0
 PieceSpares w = (env : ℕ → Values) (L : List PieceId) (lane other : Lane) → AreDisjoint w lane other
     → (F : PieceId → Bool) (ps : List PieceId) → Each (StaysIn w env lane) ps → RunsInOrder w env L F ps
     → (q : PieceId) → Mem q L → F q ≡ false → among ps q ≡ false → StaysIn w env other q
-    → ((s : Present) → HasInputs w env q s → Agree (is_lent w lane ps) (apply w q s) s) × RunsInOrder w env L (adds F q) ps
+    → ((s : Present) → HasInputs w env q s → Agree (is_lent_with w lane ps) (apply w q s) s) × RunsInOrder w env L (adds F q) ps
 
 -- what two shares of disjoint lanes are to each other: what the first has lent stays while the second is applied; it still runs in
 -- order once the second is in; and they may be finished in either order, which gives the partial replay with both
 pub record AreApart (w : World) (env : ℕ → Values) (L : List PieceId) (lane : Lane) (s : Present) (F : PieceId → Bool) (ps qs : List PieceId) : Type 0 where
-  pub stays : Agree (is_lent w lane ps) (applied w qs (partial w F L s)) (partial w F L s)
+  pub stays : Agree (is_lent_with w lane ps) (applied_each w qs (partial w F L s)) (partial w F L s)
   pub next : RunsInOrder w env L (adds_all F qs) ps
-  pub swap : applied w ps (applied w qs (partial w F L s)) ≡ applied w qs (applied w ps (partial w F L s))
-  pub ends : applied w ps (applied w qs (partial w F L s)) ≡ partial w (adds_all (adds_all F qs) ps) L s
+  pub swap : applied_each w ps (applied_each w qs (partial w F L s)) ≡ applied_each w qs (applied_each w ps (partial w F L s))
+  pub ends : applied_each w ps (applied_each w qs (partial w F L s)) ≡ partial w (adds_all (adds_all F qs) ps) L s
 
 abbrev pub SharesApart : World → List ℕ → List ℕ → Type 0
 SharesApart w ts bs = (s : Present) (F : PieceId → Bool) → HoldsNeeds w (env_after w ts s) (pieces w ts bs) F

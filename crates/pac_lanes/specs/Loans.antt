@@ -14,9 +14,9 @@ use Rattle.pac_ops.specs.Transactions.{replayed}
 use Rattle.pac_commute.specs.PartialFits.{PresentFits, TxnsFitPlan}
 use Rattle.pac_commute.specs.Loads.{Job, begin, next_in_job, loaded, and_batch}
 use Rattle.pac_commute.specs.Machine.{Machine, among, opening_machine, world_at, pieces_at, ends_at}
-use Rattle.pac_lanes.specs.Shares.{applied, InputsAtTurns, PieceCode, codes_of}
-use Rattle.pac_lanes.specs.Lanes.{Lane, AreDisjoint, is_lent, is_changed, Agree, IsPutBack}
-use Rattle.pac_lanes.specs.Rounds.{Cut, IsCut, rest_of, is_of, MayBeLent}
+use Rattle.pac_lanes.specs.Shares.{applied_each, HasInputsAtTurns, PieceCode, codes_of}
+use Rattle.pac_lanes.specs.Lanes.{Lane, AreDisjoint, is_lent_with, is_changed, Agree, IsPutBack}
+use Rattle.pac_lanes.specs.Rounds.{StageCut, IsCut, rest_of, is_of, MayBeLent}
 use Rattle.pac_lanes.specs.Stays.{groups_clash, lane_of, IsOfGroup}
 use Rattle.pac_commute.specs.Machine.{Keeps}
 use Rattle.pac_lanes.specs.Finish.{NothingOut, after_share, IsLent}
@@ -34,7 +34,7 @@ pub record Loan : Type 0 where
 pub record IsLoan (job : Job) (m : Machine) (loan : Loan) : Type 0 where
   pub lent : IsLent job m loan.lane loan.share
   pub code : loan.codes ≡ codes_of (world_at job m) loan.share
-  pub held : Agree (is_lent (world_at job m) loan.lane loan.share) m.now loan.given
+  pub held : Agree (is_lent_with (world_at job m) loan.lane loan.share) m.now loan.given
   pub noteless : loan.given.note ≡ None
 
 -- two loans: their lanes are disjoint, and no piece is of both shares
@@ -76,20 +76,20 @@ LoadKeepsHome = (job : Job) → IsPlan job.parts → (m : Machine) (home : Prese
 abbrev pub LendKeepsHome : Type 0
 LendKeepsHome = (job : Job) → IsPlan job.parts → (m : Machine) (home : Present) (loans : List Loan) → KeepsHome job m home loans
     → (loan : Loan) → IsLent job m loan.lane loan.share → Each (LoanApart (world_at job m) loan) loans → loan.codes ≡ codes_of (world_at job m) loan.share
-    → Agree (is_lent (world_at job m) loan.lane loan.share) home loan.given → loan.given.note ≡ None
+    → Agree (is_lent_with (world_at job m) loan.lane loan.share) home loan.given → loan.given.note ≡ None
     → KeepsHome job m home (loan ∷ loans)
 
 -- whoever has it finds the inputs of each piece at its turn
 abbrev pub LoanHasInputs : Type 0
 LoanHasInputs = (job : Job) → IsPlan job.parts → (m : Machine) (home : Present) (loans : List Loan) → KeepsHome job m home loans
-    → (loan : Loan) → Mem loan loans → InputsAtTurns (world_at job m) (ends_at job m) loan.share loan.given
+    → (loan : Loan) → Mem loan loans → HasInputsAtTurns (world_at job m) (ends_at job m) loan.share loan.given
 
 -- one comes back, of which the first pieces were run on what was given: these are finished, and what was made is at home
 abbrev pub ReturnKeepsHome : Type 0
 ReturnKeepsHome = (job : Job) → IsPlan job.parts → (m : Machine) (home : Present) (before : List Loan) (loan : Loan) (after : List Loan)
     → KeepsHome job m home (before ++ loan ∷ after)
     → (run rest : List PieceId) → loan.share ≡ run ++ rest
-    → (home' : Present) → IsPutBack (world_at job m) loan.lane loan.share (applied (world_at job m) run loan.given) home home'
+    → (home' : Present) → IsPutBack (world_at job m) loan.lane loan.share (applied_each (world_at job m) run loan.given) home home'
     → KeepsHome job (after_share job m run) home' (before ++ after)
 
 -- with nothing lent, all is at home
@@ -105,18 +105,18 @@ HomeEnds = (job : Job) → IsPlan job.parts → (m : Machine) (home : Present) �
 -- ---- loans of a cut
 
 -- the unfinished pieces of a round, a stage and a group
-abbrev pub share_at : Job → Machine → Cut → ℕ → ℕ → ℕ → List PieceId
+abbrev pub share_at : Job → Machine → StageCut → ℕ → ℕ → ℕ → List PieceId
 share_at job m cut r k g = rest_of (pieces_at job m) m.finished (is_of cut r k g)
 
 -- where they may be lent, and each piece is of its group, they are, on the lane of the stage and the group
 abbrev pub CutLends : Type 0
-CutLends = (job : Job) → IsPlan job.parts → (m : Machine) → (cut : Cut) (of_key : ℕ → Key → ℕ) → IsCut (world_at job m) (ends_at job m) (pieces_at job m) cut
+CutLends = (job : Job) → IsPlan job.parts → (m : Machine) → (cut : StageCut) (of_key : ℕ → Key → ℕ) → IsCut (world_at job m) (ends_at job m) (pieces_at job m) cut
     → ((p : PieceId) → Mem p (pieces_at job m) → IsOfGroup (world_at job m) (ends_at job m) cut of_key p)
     → (r k g : ℕ) → MayBeLent (pieces_at job m) cut m.finished r k g → IsLent job m (lane_of cut of_key k g) (share_at job m cut r k g)
 
 -- shares of two stages, or of groups of one that don't clash, are apart
 abbrev pub CutLoansApart : Type 0
-CutLoansApart = (job : Job) (m : Machine) (cut : Cut) (of_key : ℕ → Key → ℕ) (r k g s l h : ℕ) (codes codes' : List PieceCode) (given given' : Present) → (k ≡ l → groups_clash k g h ≡ false)
+CutLoansApart = (job : Job) (m : Machine) (cut : StageCut) (of_key : ℕ → Key → ℕ) (r k g s l h : ℕ) (codes codes' : List PieceCode) (given given' : Present) → (k ≡ l → groups_clash k g h ≡ false)
     → LoanApart (world_at job m) (record { lane = lane_of cut of_key k g; share = share_at job m cut r k g; codes = codes; given = given }) (record { lane = lane_of cut of_key l h; share = share_at job m cut s l h; codes = codes'; given = given' })
 
 -- ---- fitting
@@ -125,7 +125,7 @@ CutLoansApart = (job : Job) (m : Machine) (cut : Cut) (of_key : ℕ → Key → 
 abbrev pub LoanFits : Type 0
 LoanFits = (job : Job) → IsPlan job.parts → RowsFit job.parts.tables job.tables → (m : Machine) (home : Present) (loans : List Loan) → KeepsHome job m home loans
     → (loan : Loan) → Mem loan loans → PresentFits job.parts (world_at job m) loan.given → (run rest : List PieceId) → loan.share ≡ run ++ rest
-    → PresentFits job.parts (world_at job m) (applied (world_at job m) run loan.given)
+    → PresentFits job.parts (world_at job m) (applied_each (world_at job m) run loan.given)
 
 -- and so does what is at home, once it is put back
 abbrev pub ReturnFits : Type 0

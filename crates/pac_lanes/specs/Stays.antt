@@ -18,7 +18,7 @@ use Rattle.pac_ops.specs.declared.batch.Batch.{Batch}
 use Rattle.pac_commute.specs.Exchange.{env_after}
 use Rattle.pac_commute.specs.PlanLaws.{txns_of, NumbersRunOn, AllInTables, planned, numbers_of}
 use Rattle.pac_lanes.specs.Lanes.{Lane, StaysIn, AreDisjoint}
-use Rattle.pac_lanes.specs.Rounds.{Cut, IsCut}
+use Rattle.pac_lanes.specs.Rounds.{StageCut, IsCut}
 
 -- ---- all rows
 
@@ -62,12 +62,12 @@ abbrev pub groups_clash : ℕ → ℕ → ℕ → Bool
 groups_clash k g h = g == 0 || (h == 0 || g == h)
 
 -- the rows of the tables of a stage at keys of a group
-abbrev pub lane_of : Cut → (ℕ → Key → ℕ) → ℕ → ℕ → Lane
+abbrev pub lane_of : StageCut → (ℕ → Key → ℕ) → ℕ → ℕ → Lane
 lane_of cut of_key k g = key_lane (λ b. cut.stage b == k) (λ key. g == 0 || of_key k key == g)
 
 -- the group of its transaction is all of the stage; or all keys of the piece are the value of one expression, which is of that group; or its access
 -- is of keys that are
-abbrev pub IsOfGroup : World → (ℕ → Values) → Cut → (ℕ → Key → ℕ) → PieceId → Type 0
+abbrev pub IsOfGroup : World → (ℕ → Values) → StageCut → (ℕ → Key → ℕ) → PieceId → Type 0
 IsOfGroup w env cut of_key p =
     (cut.group (cut.stage p.block) p.txn ≡ 0)
     ⊎ (((e : Expr) × KeysAre (ops w p) e × ((key : Key) → key_at e (env p.txn) ≡ Ok key → of_key (cut.stage p.block) key ≡ cut.group (cut.stage p.block) p.txn))
@@ -75,26 +75,26 @@ IsOfGroup w env cut of_key p =
 
 -- then each piece stays in the lane of its stage and group
 abbrev pub StaysInGroup : World → Type 0
-StaysInGroup w = (env : ℕ → Values) (cut : Cut) (of_key : ℕ → Key → ℕ) (p : PieceId) → IsOfGroup w env cut of_key p
+StaysInGroup w = (env : ℕ → Values) (cut : StageCut) (of_key : ℕ → Key → ℕ) (p : PieceId) → IsOfGroup w env cut of_key p
     → StaysIn w env (lane_of cut of_key (cut.stage p.block) (cut.group (cut.stage p.block) p.txn)) p
 
 -- pieces of one block whose groups don't clash don't conflict
 abbrev pub GroupsAreApart : World → Type 0
-GroupsAreApart w = (env : ℕ → Values) (cut : Cut) (of_key : ℕ → Key → ℕ) (p q : PieceId) → IsOfGroup w env cut of_key p → IsOfGroup w env cut of_key q → p.block ≡ q.block
+GroupsAreApart w = (env : ℕ → Values) (cut : StageCut) (of_key : ℕ → Key → ℕ) (p q : PieceId) → IsOfGroup w env cut of_key p → IsOfGroup w env cut of_key q → p.block ≡ q.block
     → groups_clash (cut.stage p.block) (cut.group (cut.stage p.block) p.txn) (cut.group (cut.stage p.block) q.txn) ≡ false → conflicts (access w env p) (access w env q) ≡ false
 
 -- and lanes of different stages, or of groups that don't clash, are disjoint
 abbrev pub LanesAreDisjoint : Type 0
-LanesAreDisjoint = (w : World) (cut : Cut) (of_key : ℕ → Key → ℕ) (k g l h : ℕ) → (k ≡ l → groups_clash k g h ≡ false) → AreDisjoint w (lane_of cut of_key k g) (lane_of cut of_key l h)
+LanesAreDisjoint = (w : World) (cut : StageCut) (of_key : ℕ → Key → ℕ) (k g l h : ℕ) → (k ≡ l → groups_clash k g h ≡ false) → AreDisjoint w (lane_of cut of_key k g) (lane_of cut of_key l h)
 
 -- each edge of the plan stays in its stage or leads to another: a test of the plan alone
-abbrev pub edges_kept : PlanParts → Cut → Bool
+abbrev pub edges_kept : PlanParts → StageCut → Bool
 edges_kept parts cut = list_all (λ e. cut.stage e.0 == cut.stage e.1 || cut.leads (cut.stage e.0) (cut.stage e.1)) parts.edges
 
 -- where the plan passes that test, rounds and stages rise, each piece is of its group, and of one round either all transactions of a stage are of
 -- group 0 or none is, it is a cut
 abbrev pub GroupsGiveCut : World → PlanParts → List ℕ → List ℕ → Type 0
-GroupsGiveCut w parts ts bs = (env : ℕ → Values) (cut : Cut) (of_key : ℕ → Key → ℕ)
+GroupsGiveCut w parts ts bs = (env : ℕ → Values) (cut : StageCut) (of_key : ℕ → Key → ℕ)
     → cut.clash ≡ groups_clash → edges_kept parts cut ≡ true
     → ((t u : ℕ) → t < u → cut.round t ≤ cut.round u) → ((k l : ℕ) → cut.leads k l ≡ true → k < l)
     → ((p : PieceId) → Mem p (pieces w ts bs) → IsOfGroup w env cut of_key p)

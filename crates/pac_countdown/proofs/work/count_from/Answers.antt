@@ -1,7 +1,7 @@
 -- Each pair of the piece is counted once.
 use Rattle.std.proofs.Common.{◌≡◌, ◌+◌, ◌++◌, get_or, take, sym, ap, ◌∙◌, subst, refl, true, false, arith}
 use Rattle.pac_countdown.specs.Lists.{times_in, pair_times}
-use Rattle.pac_countdown.specs.Counted.{pairs_of}
+use Rattle.pac_countdown.specs.Counted.{agenda_pairs}
 use Rattle.pac_countdown.specs.Steps.{after_count}
 use Rattle.pac_countdown.specs.HandOut.{CountsFrom}
 use Rattle.pac_countdown.specs.declared.worker.Worker.{Worker}
@@ -11,7 +11,7 @@ use Rattle.pac_countdown.proofs.work.count_from.Goals as goal
 use Rattle.pac_countdown.proofs.work.count_from.Goals.{then-count+in_ok-push, else-count}
 
 pub count-requires-clause-pair : goal.count-requires-clause-pair
-count-requires-clause-pair c = paired_there (pairs_of c.args.countdown.now.agenda) c.args.laters.now c.args.from c.loop-to.to-index c.requires.laters c.loop-to-test.true
+count-requires-clause-pair c = paired_there (agenda_pairs c.args.countdown.now.agenda) c.args.laters.now c.args.from c.loop-to.to-index c.requires.laters c.loop-to-test.true
 
 pub count-requires-clause-handed : goal.count-requires-clause-handed
 count-requires-clause-handed c =
@@ -26,7 +26,7 @@ pub count-requires-clause-new : goal.count-requires-clause-new
 count-requires-clause-new c =
     let to = get_or c.args.laters.now c.loop-to.to-index 0 in
     ap (pair_times (c.args.from, get_or c.args.laters.now c.loop-to.to-index 0)) c.loop-to.invariant.counted
-    ∙ from_new (pairs_of c.args.countdown.now.agenda) c.args.worker.now.pass.deeds.counted c.args.laters.now c.args.from c.loop-to.to-index c.pairs_differ.ensures c.requires.new c.requires.laters c.loop-to-test.true
+    ∙ from_new (agenda_pairs c.args.countdown.now.agenda) c.args.worker.now.pass.deeds.counted c.args.laters.now c.args.from c.loop-to.to-index c.pairs_differ.ensures c.requires.new c.requires.laters c.loop-to-test.true
 
 pub loop-to-preserved : goal.loop-to-preserved
 loop-to-preserved c =
@@ -39,7 +39,7 @@ loop-to-preserved c =
     let before = c.loop-to.worker in
     let inv = c.loop-to.invariant in
     let inside = c.loop-to-test.true in
-    let few = (c.pairs_are_below.ensures (from, to) (paired_there (pairs_of countdown.agenda) laters from k c.requires.laters inside)).1 in
+    let few = (c.pairs_are_below.ensures (from, to) (paired_there (agenda_pairs countdown.agenda) laters from k c.requires.laters inside)).1 in
     let on : Worker → Type 0 = λ worker. CountsFrom countdown start worker (take (k + 1) laters) from in
     elim c.if-count.branch [
       | then-count+in_ok-push w ↦

@@ -1,7 +1,7 @@
 -- Each piece's pairs are counted in turn.
 use Rattle.std.proofs.Common.{◌≡◌, ℕ, ◌<◌, List, [], ◌++◌, length, get_or, take, sym, ap, ◌∙◌, subst, arith}
 use Rattle.pac_countdown.specs.Lists.{times_in, pair_times}
-use Rattle.pac_countdown.specs.Counted.{pairs_of}
+use Rattle.pac_countdown.specs.Counted.{agenda_pairs}
 use Rattle.pac_countdown.specs.HandOut.{paired, pairs_from, pairs_of_all}
 use Rattle.pac_countdown.proofs.Sums.{inside_default}
 use Rattle.pac_countdown.proofs.Hands.{times_at, fresh_at, all_other, all_on, longer}
@@ -18,7 +18,7 @@ count_from-requires-clause-new c = λ t.
     let items = c.loop-at.worker.pieces.items in
     let from = c.index-from.result.now in
     ap (pair_times (from, t)) c.loop-at.invariant.counted
-    ∙ all_other (pairs_of c.args.countdown.now.agenda) from t (take c.loop-at.at items)
+    ∙ all_other (agenda_pairs c.args.countdown.now.agenda) from t (take c.loop-at.at items)
     (subst (λ (p : ℕ). times_in p (take c.loop-at.at items) ≡ 0) (sym c.index-from.ensures) (fresh_at items c.loop-at.at from c.loop-at.invariant.held.distinct.differ (omega arith)))
 
 -- the piece is one of those that there are
@@ -45,7 +45,7 @@ pub loop-at-preserved : goal.loop-at-preserved
 loop-at-preserved c =
     let items = c.loop-at.worker.pieces.items in
     let from = c.index-from.result.now in
-    let pairs = pairs_of c.args.countdown.now.agenda in
+    let pairs = agenda_pairs c.args.countdown.now.agenda in
     let done = c.in_ok-count_from.ensures in record {
       held = done.held;
       inside = longer items c.count_from.new.worker.pieces.items c.loop-at.at (omega arith) done.grows;

@@ -3,7 +3,7 @@ use Rattle.std.proofs.Common.{◌≡◌, ◌<◌, ◌+◌, ◌-◌, ◌%◌, ◌
 use mathlib.Core.Option.{none}
 use Rattle.atomic_table.specs.Table.{Me, Allows, step}
 use Rattle.pac_countdown.specs.Lists.{times_in, pair_times}
-use Rattle.pac_countdown.specs.Counted.{IsCounted, pairs_of}
+use Rattle.pac_countdown.specs.Counted.{IsCounted, agenda_pairs}
 use Rattle.pac_countdown.specs.Steps.{HasCounted}
 use Rattle.pac_countdown.specs.Seen.{PassSeen, CountdownSeen}
 use Rattle.pac_countdown.specs.declared.deeds.Deeds.{Deeds}
@@ -21,7 +21,7 @@ fetch_sub-found-requires g c =
     let pass = c.pass.view_is in
     let countdown = c.self.view_is in
     let size = c.self.invariant.0 in
-    let pair = subst (λ (x : CountdownSeen). 0 < pair_times (from, to) (pairs_of x.agenda)) (sym countdown) c.requires.pair in
+    let pair = subst (λ (x : CountdownSeen). 0 < pair_times (from, to) (agenda_pairs x.agenda)) (sym countdown) c.requires.pair in
     let handed = subst (λ (x : PassSeen). 0 < times_in from x.deeds.handed) (sym pass) c.requires.handed in
     let new = subst (λ (x : PassSeen). pair_times (from, to) x.deeds.counted ≡ 0) (sym pass) c.requires.new in
     let inside = (c.self.invariant.4 (from, to) pair).1 in

@@ -1,7 +1,7 @@
 -- The rule holds at first.
 use Rattle.std.proofs.Common.{◌≡◌, ℕ, ◌<◌, ◌≤◌, List, ◌∙◌, sym, ap, subst, length}
 use Rattle.pac_countdown.specs.Lists.{pair_times}
-use Rattle.pac_countdown.specs.Counted.{pairs_of, starting, word}
+use Rattle.pac_countdown.specs.Counted.{agenda_pairs, starting, word}
 use Rattle.pac_countdown.specs.Steps.{AreBelow}
 use Rattle.pac_countdown.specs.declared.deeds.Agenda.{Agenda}
 use Rattle.pac_countdown.proofs.Ends.{opens_rule}
@@ -14,7 +14,7 @@ of_words-requires c =
     let items = c.deref.ensures.value in
     let len = c.deref.ensures.len in
     let agenda : Agenda = record { preds = c.of.result; pieces = c.args.pieces } in
-    let are : c.pairs.result.now ≡ pairs_of agenda = c.pairs.ensures.value ∙ sym c.of.ensures in
+    let are : c.pairs.result.now ≡ agenda_pairs agenda = c.pairs.ensures.value ∙ sym c.of.ensures in
     let starts = start_at c.args.preds.now c.in_ok-words.words.items c.args.pieces (sym (ap length items) ∙ len ∙ made.len) c.requires.within
     (λ p less. made.words p less ∙ ap (λ (x : List (ℕ × ℕ)). starting x p) c.pairs.ensures.value) in
     let once = subst (λ (x : List (ℕ × ℕ)). (q : ℕ × ℕ) → pair_times q x ≤ 1) (sym c.of.ensures) c.requires.once in
@@ -28,7 +28,7 @@ invariant_of-result c =
     let words = c.in_ok-words.ensures.len in
     let key = made.5 in
     let pieces = ap (λ (x : Agenda). x.pieces) key in
-    let are : pairs_of c.in_ok-table.table.shared.key ≡ c.args.preds.now = ap pairs_of key ∙ c.of.ensures in
+    let are : agenda_pairs c.in_ok-table.table.shared.key ≡ c.args.preds.now = ap agenda_pairs key ∙ c.of.ensures in
     let wide : AreBelow c.args.pieces c.args.preds.now =
     each_pair (λ (q : ℕ × ℕ). (q.0 < q.1) × (q.1 < c.args.pieces)) c.args.preds.now (λ k d less. (c.pairs.ensures.order k d less, c.requires.within k d less)) in (
       made.0 ∙ len ∙ words ∙ sym pieces,
