@@ -29,12 +29,12 @@ pub enum FeedEnd {
 /// them.
 #[derive(Drop)]
 pub struct LogFeed<'r, 'd, D: Disk> {
-    reader: &'r mut LogReader,
-    disk: &'d mut D,
+    pub(crate) reader: &'r mut LogReader,
+    pub(crate) disk: &'d mut D,
     /// How many bytes the bodies have that are missing until its window is full.
-    missing: u64,
-    end: Option<FeedEnd>,
-    so_far: GhostList<Batch>,
+    pub(crate) missing: u64,
+    pub(crate) end: Option<FeedEnd>,
+    pub(crate) so_far: GhostList<Batch>,
 }
 
 impl<'r, 'd, D: Disk> LogFeed<'r, 'd, D> {

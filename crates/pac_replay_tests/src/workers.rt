@@ -1,6 +1,4 @@
 // Workers over the core of the bank's three batches: each piece is counted once, and passes the gate once.
-ghost use Rattle.std.specs.Prelude.{◌≤◌};
-
 use crate::cores::script_core;
 use crate::ends::{hold, outcome_of};
 use crate::takes::{AFTER_THREE, THREE};
@@ -31,9 +29,10 @@ fn replayed_by<R: Rows + Send, G: Gate + Sync, H: Threads + Wait + Sync>(
     workers: u32,
     mut core: Core<R>,
     gate: &G,
-) -> Option<Counted>
-    requires { 1 ≤ workers }
-{
+) -> Option<Counted> {
+    if workers == 0 {
+        return None;
+    }
     core.close();
     let replayed = replay(rt, alloc, workers, core, gate).ok()?;
     let tallies = replayed.tallies.as_slice();

@@ -107,27 +107,24 @@ fn each_piece_once(rt: HostRuntime) -> Result<(), NoMemory> {
 // Whether each piece that `workers` workers pass the gate with entered once, and no other. One worker passes it with each piece,
 // more with those that are handed out.
 fn is_each_once(gate: &Counting, pattern: Pattern, workers: u32) -> bool {
-    let mut at = 0;
-    for count in gate.pieces() {
-        let passes = workers == 1 || pattern.is_handed_out(at);
-        if count.load(Ordering::SeqCst) != u64::from(passes) {
+    let pieces = gate.pieces();
+    for at in 0..pieces.len() {
+        let passes = workers == 1 || pattern.is_handed_out(at as u64);
+        if pieces[at].load(Ordering::SeqCst) != u64::from(passes) {
             return false;
         }
-        at += 1;
     }
     true
 }
 
 // Whether each worker entered with the pieces in its tally: with all of them where none is run on the spot, else with no more.
 fn are_counted(gate: &Counting, pattern: Pattern, tallies: &[u64]) -> bool {
-    let mut worker = 0;
-    for tally in tallies {
-        let entered = gate.by_worker(worker);
-        let all_enter = tallies.len() == 1 || pattern.spot_every == 0;
-        if entered > *tally || (all_enter && entered != *tally) {
+    let all_enter = tallies.len() == 1 || pattern.spot_every == 0;
+    for worker in 0..tallies.len() {
+        let entered = gate.by_worker(worker as u64);
+        if entered > tallies[worker] || (all_enter && entered != tallies[worker]) {
             return false;
         }
-        worker += 1;
     }
     true
 }
