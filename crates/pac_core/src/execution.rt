@@ -10,7 +10,6 @@ ghost use Rattle.pac_commute.specs.PlanLaws.{NumbersRunOn, txns_of};
 ghost use Rattle.pac_core.specs.Calls.{IsReplayDone, IsReplayOutcome, with_batches};
 ghost use Rattle.pac_core.specs.Replay.{closed, opening_replay};
 ghost use Rattle.pac_core.specs.FedExecution.{IsExecutedFeed};
-ghost use Rattle.pac_workers.specs.Fed.{Gave};
 
 use crate::answers::Outcome;
 use crate::replay::Core;
@@ -91,10 +90,10 @@ pub fn execute_feed<R: Rows + Send, F: Feed, G: Gate + Sync, H: Threads + Wait +
     requires fit { RowsFit plan.tables (R.held tables) }
     requires next { F.next_txn feed.old ≡ first }
     requires types { (F.params feed.old ≡ map (λ program. program.params) plan.programs) × (F.tables feed.old ≡ plan.tables) }
-    ensures given { (batches : List ABatch) × Gave F.so_far F.gives feed.old batches feed.new }
+    ensures given { (batches : List ABatch) × F.gives feed.old batches feed.new }
     ensures tables { IfOk result (λ e. R.tables e.tables ≡ length plan.tables) }
     ensures fit { IfOk result (λ e. RowsFit plan.tables (R.held e.tables)) }
-    ensures executed { IfOk result (λ e. IsExecutedFeed (Gave F.so_far F.gives) (record { parts = plan; first = first; tables = R.held tables }) feed.old feed.new (R.held e.tables) e.first_note (sum e.tallies + e.drained)) }
+    ensures executed { IfOk result (λ e. IsExecutedFeed F.gives (record { parts = plan; first = first; tables = R.held tables }) feed.old feed.new (R.held e.tables) e.first_note (sum e.tallies + e.drained)) }
     ensures tallies { IfOk result (λ e. length e.tallies ≡ workers) }
     ensures over { OnOk result (F.is_over feed.new ≡ true) }
     ensures same_types { (F.params feed.new ≡ F.params feed.old) × (F.tables feed.new ≡ F.tables feed.old) }

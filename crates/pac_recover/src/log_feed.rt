@@ -12,7 +12,7 @@ ghost use Rattle.pac_recover.specs.FedLogs.{AreBodiesCounted, AreCounted, IsGive
 use pac_log::{LogError, LogReader};
 use pac_ops::Batch;
 use pac_outside::Disk;
-use pac_workers::{Feed, GhostList};
+use pac_workers::Feed;
 
 /// Why a feed of a log gives no more.
 #[derive(Clone, Copy, Debug, PartialEq, Eq)]
@@ -29,12 +29,11 @@ pub enum FeedEnd {
 /// them.
 #[derive(Drop)]
 pub struct LogFeed<'r, 'd, D: Disk> {
-    pub(crate) reader: &'r mut LogReader,
-    pub(crate) disk: &'d mut D,
+    reader: &'r mut LogReader,
+    disk: &'d mut D,
     /// How many bytes the bodies have that are missing until its window is full.
-    pub(crate) missing: u64,
-    pub(crate) end: Option<FeedEnd>,
-    pub(crate) so_far: GhostList<Batch>,
+    missing: u64,
+    end: Option<FeedEnd>,
 }
 
 impl<'r, 'd, D: Disk> LogFeed<'r, 'd, D> {
@@ -45,14 +44,12 @@ impl<'r, 'd, D: Disk> LogFeed<'r, 'd, D> {
         ensures disk { result.disk ≡ disk.entry }
         ensures missing { result.missing ≡ window }
         ensures end { result.end ≡ ANone }
-        ensures so_far { result.so_far.items ≡ [] }
     {
         LogFeed {
             reader,
             disk,
             missing: window,
             end: None,
-            so_far: GhostList::new(),
         }
     }
 
@@ -84,8 +81,6 @@ impl<'r, 'd, D: Disk> LogFeed<'r, 'd, D> {
 }
 
 impl<'r, 'd, D: Disk> Feed for LogFeed<'r, 'd, D> {
-    ghost so_far = { λ feed. feed.so_far.items };
-
     ghost gives = { λ old given new. (new.reader.ghost_name ≡ old.reader.ghost_name) × (new.disk.ghost_name ≡ old.disk.ghost_name)
         × AreBodiesCounted old.missing new.missing given old.end new.end
         × (old.end ≡ ANone → AreCounted (D.faults old.disk.now) (D.faults new.disk.now) new.end)
@@ -114,7 +109,6 @@ impl<'r, 'd, D: Disk> Feed for LogFeed<'r, 'd, D> {
             Ok(batch) => {
                 let len = self.reader.gate().place().saturating_sub(before);
                 self.missing = self.missing.saturating_sub(len.saturating_sub(1)); // but for the gate
-                self.so_far = self.so_far.with(&batch);
                 Some(batch)
             }
             Err(end) => {

@@ -1,7 +1,5 @@
 // Executes a window of a log while it is read.
-ghost use Rattle.std.specs.Prelude.{◌≡◌, ◌≤◌, ◌+◌, ℕ, List, IfOk, IsErrOf, OnOk, length, map, sum, true};
-ghost use Rattle.pac_ops.specs.Shapes.{RowsFit};
-ghost use Rattle.pac_ops.specs.declared.batch.Batch.{Batch as ABatch};
+ghost use Rattle.std.specs.Prelude.{◌≡◌, ◌≤◌, ℕ, IfOk, IsErrOf, map};
 ghost use Rattle.pac_outside.specs.Causes.{one_more};
 ghost use Rattle.pac_types.specs.Fits.{FitsCatalogue, shape};
 ghost use Rattle.pac_flat.specs.Agreement.{ReplaysTheSame};
@@ -10,21 +8,19 @@ ghost use Rattle.pac_log.specs.declared.damage.DamageKind.{DamageKind as ALogDam
 ghost use Rattle.pac_check.specs.declared.damage.SlotDamageKind.{SlotDamageKind as ASlotDamage};
 ghost use Rattle.pac_check.specs.declared.info.SlotName.{SlotName as ASlotName};
 ghost use Rattle.pac_recover.specs.declared.errors.Damage.TheVariants.{Log as InLog, Slot as InSlot};
-ghost use Rattle.pac_core.specs.FedExecution.{IsExecutedFeed};
 ghost use Rattle.pac_recover.specs.FedLogs.{OfKnownLog};
 ghost use Rattle.pac_recover.specs.Outcomes.{FitsReplayed};
 ghost use Rattle.pac_recover.specs.Windows.{IsExecutedWindow};
 
 use crate::workers::execution_of;
 use crate::{Execution, LoadError, LogFeed};
-use pac_base::{Exact, NoMemory};
-use pac_core::{Executed, execute_feed};
+use pac_base::Exact;
+use pac_core::execute_feed;
 use pac_log::LogReader;
 use pac_outside::{Disk, Gate};
 use pac_plan::Plan;
-use pac_tables::{JoinedRows, Rows, TableRows};
+use pac_tables::{JoinedRows, TableRows};
 use pac_types::Catalogue;
-use pac_workers::Feed;
 use std::alloc::Global;
 use std::sync::Wait;
 use std::thread::Threads;
@@ -80,47 +76,12 @@ pub(crate) fn execute_window<
     let plan = plan.copy(alloc)?;
     let first = reader.gate().txns() + 1;
     let mut feed = LogFeed::new(reader, disk, bytes);
-    let executed = execute_known(rt, alloc, workers, plan, first, tables, &mut feed, gate);
-    let refusal = feed.refusal();
-    let is_last = feed.is_at_end();
-    let LogFeed {
-        reader: _,
-        disk: _,
-        missing: _,
-        end: _,
-        so_far,
-    } = feed;
-    drop(so_far);
-    if let Some(cause) = refusal {
+    let executed = execute_feed(rt, alloc, workers, plan, first, tables, &mut feed, gate);
+    if let Some(cause) = feed.refusal() {
         return Err(LoadError::from(cause));
     }
     Ok(ExecutedWindow {
         executed: execution_of(executed?),
-        is_last,
+        is_last: feed.is_at_end(),
     })
-}
-
-// The same as `execute_feed`, which says of the feed what its type knows.
-fn execute_known<R: Rows + Send, F: Feed, G: Gate + Sync, H: Threads + Wait + Sync>(
-    rt: &H,
-    alloc: Global,
-    workers: u32,
-    plan: Plan,
-    first: u64,
-    tables: R,
-    feed: &mut F,
-    gate: &G,
-) -> Result<Executed<R>, NoMemory>
-    requires workers { 1 ≤ workers }
-    requires tables { R.tables tables ≡ length plan.tables }
-    requires fit { RowsFit plan.tables (R.held tables) }
-    requires next { F.next_txn feed.old ≡ first }
-    requires types { (F.params feed.old ≡ map (λ program. program.params) plan.programs) × (F.tables feed.old ≡ plan.tables) }
-    ensures given { (batches : List ABatch) × F.gives feed.old batches feed.new }
-    ensures tables { IfOk result (λ e. R.tables e.tables ≡ length plan.tables) }
-    ensures fit { IfOk result (λ e. RowsFit plan.tables (R.held e.tables)) }
-    ensures executed { IfOk result (λ e. IsExecutedFeed F.gives (record { parts = plan; first = first; tables = R.held tables }) feed.old feed.new (R.held e.tables) e.first_note (sum e.tallies + e.drained)) }
-    ensures over { OnOk result (F.is_over feed.new ≡ true) }
-{
-    execute_feed(rt, alloc, workers, plan, first, tables, feed, gate)
 }

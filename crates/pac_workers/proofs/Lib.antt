@@ -1,3 +1,4 @@
+mod Feeds
 mod LoadedOne
 mod Showing
 mod TwinKeeps

@@ -20,11 +20,11 @@ use Rattle.pac_recover.proofs.windows.execute_window.Goals as goal
 
 pub returns-in-Some-clause-log_damage : goal.returns-in-Some-clause-log_damage
 returns-in-Some-clause-log_damage g c = λ at kind is.
-    let end = c.execute_known-executed.new.feed.end in
-    let given = c.execute_known-executed.ensures.given in
+    let end = c.execute_feed-executed.new.feed.end in
+    let given = c.execute_feed-executed.ensures.given in
     let of_log = given-from (g.D.Disk.known c.args.disk.now) _ _ c.args.reader.now.gate _ _ given.0 _ end (λ i. g.D.Disk.known (c.new-feed.ensures.disk i).now) (λ i. (c.new-feed.ensures.reader i).now.gate) c.new-feed.ensures.end given.1.4 in
     let cause : c.in-Some.cause ≡ error.Damaged at kind = log-cause c.in-Some.cause at kind (sym c.from.ensures ∙ the-error _ c.from.result (load.Damaged (Log at kind)) refl is) in
-    let refusal : refusal_of end ≡ Some (error.Damaged at kind) = sym c.refusal-refusal.ensures ∙ c.in-Some.is ∙ ap (λ e. Some e) cause in
+    let refusal : refusal_of end ≡ Some (error.Damaged at kind) = sym c.refusal.ensures ∙ c.in-Some.is ∙ ap (λ e. Some e) cause in
     refused-damage (g.D.Disk.known c.args.disk.now) _ c.args.reader.now.gate _ given.0 end of_log at kind refusal
 
 pub returns-clause-fits : goal.returns-clause-fits
@@ -39,7 +39,7 @@ pub returns-clause-window : goal.returns-clause-window
 returns-clause-window g c =
     let procs = c.args._cat.now.procs in
     let old = c.args.reader.now.gate in
-    let feed = c.execute_known-executed.new.feed in
+    let feed = c.execute_feed-executed.new.feed in
     let executed = c.in_ok-executed.field-0 in
     let w = c.in_ok-executed.ensures.executed in
     let known = g.D.Disk.known c.args.disk.now in
@@ -53,7 +53,7 @@ returns-clause-window g c =
     let missing = c.new-feed.result.missing in
     let some : 1 ≤ missing = let is = c.new-feed.ensures.missing in omega (arith, c.requires.bytes, is) in
     let bodies = subst (λ (e : Option FeedEnd). AreBodiesCounted missing feed.missing w.batches e feed.end) c.new-feed.ensures.end w.given.2 in
-    let whole : refusal_of feed.end ≡ None = sym c.refusal-refusal.ensures ∙ c.in_default.is in
+    let whole : refusal_of feed.end ≡ None = sym c.refusal.ensures ∙ c.in_default.is in
     let window = executed-window known (g.D.Disk.known feed.disk.now) procs old feed.reader.now.gate c.args.tables.rows c.execution_of.result w.batches missing feed.missing some feed.end of_log bodies c.in_ok-executed.ensures.over whole outcome in
-    let last = subst (λ (b : Bool). IsExecutedWindow known procs old feed.reader.now.gate c.args.tables.rows c.execution_of.result b) (sym c.is_at_end-is_last.ensures) window in
-    subst (λ (gate : NextGate). IsExecutedWindow known procs old gate c.args.tables.rows c.execution_of.result c.is_at_end-is_last.result) (search rules) last
+    let last = subst (λ (b : Bool). IsExecutedWindow known procs old feed.reader.now.gate c.args.tables.rows c.execution_of.result b) (sym c.is_at_end.ensures) window in
+    subst (λ (gate : NextGate). IsExecutedWindow known procs old gate c.args.tables.rows c.execution_of.result c.is_at_end.result) (search rules) last
