@@ -1,5 +1,5 @@
 -- How `stress` ends.
-use Rattle.std.specs.Prelude.{◌≡◌, ¬◌, ℕ, [], ◌∷◌}
+use Rattle.std.specs.Prelude.{◌≡◌, ℕ, [], ◌∷◌}
 use Rattle.pac_stress.specs.Stressed.{IsSummaryOf}
 use Rattle.pac_main.specs.Streams.{Observed, AnyFaulted, IsTaken, IsPrefixTaken, IsOneOf}
 
