@@ -14,7 +14,6 @@ mod step;
 mod sweep;
 mod table;
 mod text;
-mod workers;
 
 use pac_outside::{Failed, Stream, write_all};
 use runner::run_file;

@@ -1,9 +1,7 @@
-//! Tests of workers, of what no clause says: that threads run, wait, wake each other and end.
+//! Tests of workers, of what no clause says: that threads run, wait, wake each other and end. It has no calls of its own.
 //!
 //! Most replay a machine of chains, in which each piece waits for the one before it; the others execute batches over a plan of
 //! one table, or hand out pieces over atomic words.
-//!
-//! [`gates`] has gates that tell who passed, for these tests and for others.
 #![tactic(auto)]
 
 #[cfg(test)]
@@ -12,7 +10,8 @@ mod chains;
 mod executions;
 #[cfg(test)]
 mod feeds;
-pub mod gates;
+#[cfg(test)]
+mod gates;
 #[cfg(test)]
 mod hand_outs;
 #[cfg(test)]
