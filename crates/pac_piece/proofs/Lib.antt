@@ -11,3 +11,6 @@ pub mod KeptLemmas
 pub mod AlikeLemmas
 pub mod ArgumentWork
 pub mod CopyLemmas
+pub mod PlaceLemmas
+pub mod LeaveLemmas
+pub mod HereLemmas

@@ -36,7 +36,7 @@ unfolding numbered_from
 records_after n [] s = refl
 records_after n (c ∷ cs) s = ap (after_ops (numbered_from (n + 1) (map record_op cs))) (record_after c s) ∙ records_after (n + 1) cs (record { env = s.env; tables = with_change s.tables c })
 
-records_silent : (txn n : ℕ) (cs : List Change) (s : State) → notes_after txn (numbered_from n (map record_op cs)) s ≡ []
+pub records_silent : (txn n : ℕ) (cs : List Change) (s : State) → notes_after txn (numbered_from n (map record_op cs)) s ≡ []
 unfolding numbered_from
 records_silent txn n [] s = refl
 records_silent txn n (c ∷ cs) s = ap (λ r. note_at txn n r ++ notes_after txn (numbered_from (n + 1) (map record_op cs)) (after_op (record_op c) s)) (record_silent c s)

@@ -100,7 +100,7 @@ changed_there There (o ∷ os) s a h e = ⊎_elim
     (λ later. changed_there There os (after_op o.1 s) a h.1 later)
     (or_cases (is_cell a (cell_changed o.1 s)) (change_row os (after_op o.1 s) a) e)
 
-written_here : (writes : List Write) (k : ℕ) (d : Write) → k < length writes → is_written writes (cell_written (get_or writes k d)) ≡ true
+pub written_here : (writes : List Write) (k : ℕ) (d : Write) → k < length writes → is_written writes (cell_written (get_or writes k d)) ≡ true
 written_here [] k d lt = absurd (let l : k < 0 = lt in omega (arith, l))
 written_here (w ∷ ws) zero d lt = or_left _ (is_written ws (cell_written w)) (same-cell (cell_written w))
 written_here (w ∷ ws) (suc k) d lt = or_right (eq_by_cmp cell_cmp (cell_written (get_or ws k d)) (cell_written w)) _ (written_here ws k d (let l : suc k < suc (length ws) = lt in omega (arith, l)))

@@ -19,7 +19,7 @@ apart : (a b : Cell) → eq_by_cmp cell_cmp a b ≡ false → eq_by_cmp cell_cmp
 apart a b f = unlike _ (λ t. true≢false (sym (ap (λ c. eq_by_cmp cell_cmp a c) (tied_same b a t) ∙ same-cell a) ∙ f))
 
 -- the later write at a cell counts
-twice : (t : Tables) (c : Cell) (old new : Option RowValues) → with_row (with_row t c old) c new ≡ with_row t c new
+pub twice : (t : Tables) (c : Cell) (old new : Option RowValues) → with_row (with_row t c old) c new ≡ with_row t c new
 twice t c old new = same_map cells_total cells_antisymmetric _ _ (λ q.
     get-with_row (with_row t c old) c new q ∙ ap (cond (eq_by_cmp cell_cmp q c) new) (get-with_row t c old q) ∙ go q (eq_by_cmp cell_cmp q c) ∙ sym (get-with_row t c new q))
   where
@@ -28,7 +28,7 @@ twice t c old new = same_map cells_total cells_antisymmetric _ _ (λ q.
     go q false = refl
 
 -- writes at two cells change places
-exchanged : (t : Tables) (a b : Cell) (x y : Option RowValues) → eq_by_cmp cell_cmp a b ≡ false → with_row (with_row t a x) b y ≡ with_row (with_row t b y) a x
+pub exchanged : (t : Tables) (a b : Cell) (x y : Option RowValues) → eq_by_cmp cell_cmp a b ≡ false → with_row (with_row t a x) b y ≡ with_row (with_row t b y) a x
 exchanged t a b x y other = same_map cells_total cells_antisymmetric _ _ (λ q.
     get-with_row (with_row t a x) b y q ∙ ap (cond (eq_by_cmp cell_cmp q b) y) (get-with_row t a x q)
     ∙ go q (eq_by_cmp cell_cmp q a) (eq_by_cmp cell_cmp q b) refl refl

@@ -9,3 +9,4 @@ pub mod Results
 pub mod Runnable
 pub mod PieceLaws
 pub mod Copies
+pub mod InPlace

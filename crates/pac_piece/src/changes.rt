@@ -1,5 +1,5 @@
 // Rows that are to stand at cells: copies, and what a piece wrote.
-ghost use Rattle.std.specs.Prelude.{◌≡◌, ◌<◌, length, position, OnOk, IfSome};
+ghost use Rattle.std.specs.Prelude.{◌≡◌, ◌<◌, length, position, OnErr, OnOk, IfSome};
 ghost use Rattle.std.specs.Ordering.{eq_by_cmp};
 ghost use Rattle.pac_value.specs.State.{cell_cmp, with_row};
 ghost use Rattle.pac_tables.specs.Written.{IsOnce, cell_written, written};
@@ -42,7 +42,8 @@ pub(crate) fn change(
     row: Option<Row>,
 ) -> Result<(), NoMemory>
     requires { IsOnce writes.old.items }
-    ensures { OnOk result (ChangesCell (table, key) row writes.old.items writes.new.items) }
+    ensures ok { OnOk result (ChangesCell (table, key) row writes.old.items writes.new.items) }
+    ensures err { OnErr result (writes.new.items ≡ writes.old.items) }
 {
     match find(writes, table, &key) {
         Some(at) => writes[at].row = row,

@@ -7,6 +7,7 @@ ghost use Rattle.pac_plan.specs.Analysis.{HasBlockEdge};
 ghost use Rattle.pac_plan.specs.Worlds.{txn_args};
 ghost use Rattle.pac_plan.specs.Codes.{TxnFitsPlan, code_in};
 ghost use Rattle.pac_tables.specs.Written.{written};
+ghost use Rattle.pac_piece.specs.InPlace.{InPlaceIsApply};
 ghost use Rattle.pac_piece.specs.Runnable.{IsRunnable, IsRunnableOn};
 ghost use Rattle.pac_piece.specs.PieceLaws.{CodeMeansPiece, SameByAccess, WorkMeansPiece, WritesWithinAccess};
 
@@ -28,6 +29,11 @@ pub fn work_means_piece()
 pub fn code_means_piece()
     ensures meaning { CodeMeansPiece }
     ensures by_access { SameByAccess }
+{}
+
+/// What code leaves where it is run in place is the piece applied to the state of a replay, in its plan.
+pub fn in_place_is_apply()
+    ensures { InPlaceIsApply }
 {}
 
 /// In a block to which no edge leads the work of a transaction's piece is there with its arguments and copies of rows that fit: a law.

@@ -87,8 +87,8 @@ fn run_touching<S: RowSource, K: Outs>(
     }
 }
 
-// The cell that an operation touches, and what it does there.
-fn touched_effect<S: RowSource, K>(
+/// The cell that an operation touches, and what it does there.
+pub(crate) fn touched_effect<S: RowSource, K>(
     alloc: Global,
     kind: &OpKind,
     source: &S,
@@ -162,8 +162,8 @@ fn give_up<K: Outs>(
     }
 }
 
-// The default of a type.
-fn default_of(ty: Ty) -> Value
+/// The default of a type.
+pub(crate) fn default_of(ty: Ty) -> Value
     ensures { result ≡ default_of ty }
 {
     match ty {
@@ -173,8 +173,8 @@ fn default_of(ty: Ty) -> Value
     }
 }
 
-// The type of what an operation would give that aborts.
-fn trapped_type(kind: &OpKind) -> Ty
+/// The type of what an operation would give that aborts.
+pub(crate) fn trapped_type(kind: &OpKind) -> Ty
     ensures { result ≡ trapped_type kind.now }
 {
     match kind {

@@ -9,8 +9,8 @@ use Rattle.pac_piece.specs.Changes.{is_at, ChangesCell}
 use Rattle.pac_piece.proofs.WriteLookups.{first_at, none_at, replaced, added}
 use Rattle.pac_piece.proofs.changes.change.Goals as goal
 
-pub returns-in-Some : goal.returns-in-Some
-returns-in-Some c =
+pub returns-in-Some-clause-ok : goal.returns-in-Some-clause-ok
+returns-in-Some-clause-ok c =
     let cell : Cell = (c.args.table, c.args.key) in
     let ws = c.args.writes.now.items in
     let at = c.in-Some.at in
@@ -21,8 +21,8 @@ returns-in-Some c =
     (λ d. ap cell_written (c.index_mut.ensures.value ∙ same_Some _ _ (sym (slice_get-get_or ws at old first.inside) ∙ slice_get-get_or ws at d first.inside)))
     c.requires
 
-pub returns-in_ok-insert-in-None : goal.returns-in_ok-insert-in-None
-returns-in_ok-insert-in-None c =
+pub returns-in_ok-insert-in-None-clause-ok : goal.returns-in_ok-insert-in-None-clause-ok
+returns-in_ok-insert-in-None-clause-ok c =
     let cell : Cell = (c.args.table, c.args.key) in
     let ws = c.args.writes.now.items in
     let new : Write = record { table = c.args.table; key = c.args.key; row = c.args.row } in
