@@ -31,13 +31,9 @@ use Rattle.pac_bytes.proofs.TypedLemmas.{key_codec}
 use Rattle.pac_entry.specs.declared.fault.EntryFault.{EntryFault}
 use Rattle.pac_entry.specs.declared.fault.EntryFaultKind.TheVariants.{Tag, UnknownTable, WrongRow, TooMany}
 use Rattle.pac_entry.specs.Kinds.{fault_at, as_fault_of}
-use Rattle.pac_entry.specs.Entries.{counted_bytes, change_bytes, ChangeHasBytes}
+use Rattle.pac_entry.specs.Entries.{counted_bytes, change_bytes, ChangeHasBytes, IsRecord}
 use Rattle.pac_entry.specs.EntryReading.{entry_byte, entry_number, counted_values, next_put, next_delete, next_change, next_records}
 use Rattle.pac_entry.proofs.RowLemmas.{entry_byte_codec, entry_number_codec, counted_codec}
-
--- a record of the tables that has bytes
-abbrev pub IsChange : List Table → Change → Type 0
-IsChange tables c = ChangeFits (map shape tables) c × ChangeHasBytes c
 
 -- the tables have numbers of two bytes, and their columns a number of one
 pub record AreFewTables (tables : List Table) : Type 0 where
@@ -95,11 +91,11 @@ key_there : (o : Option Table) (t : ℕ) (k : Key) → FitsHere o (Delete t k) �
 key_there None t k h = absurd h
 key_there (Some table) t k h = (sym h.1, h.0)
 
-here : (tables : List Table) (c : Change) → IsChange tables c → FitsHere (slice_get tables (table_of c)) c
+here : (tables : List Table) (c : Change) → IsRecord tables c → FitsHere (slice_get tables (table_of c)) c
 here tables (Put t k r) h = row_here (slice_get tables t) t k r (subst (λ o. IsSomeAnd o (λ table. KeyFits k table × ColumnsFit r table)) (slice_get-map shape tables t) h.0) h.1
 here tables (Delete t k) h = key_here (slice_get tables t) t k (subst (λ o. IsSomeAnd o (KeyFits k)) (slice_get-map shape tables t) h.0) h.1
 
-there : (tables : List Table) (c : Change) → FitsHere (slice_get tables (table_of c)) c → IsChange tables c
+there : (tables : List Table) (c : Change) → FitsHere (slice_get tables (table_of c)) c → IsRecord tables c
 there tables (Put t k r) h =
     let both = row_there (slice_get tables t) t k r h in
     (subst (λ o. IsSomeAnd o (λ table. KeyFits k table × ColumnsFit r table)) (sym (slice_get-map shape tables t)) both.0, both.1)
@@ -226,7 +222,7 @@ delete_rest n table = same _ _ _ _ _
 -- ---- after the tag
 
 abbrev After : List Table → ℕ → Change → Type 0
-After tables tag c = IsChange tables c × (tag_of c ≡ tag)
+After tables tag c = IsRecord tables c × (tag_of c ≡ tag)
 
 -- what follows a tag is the number of a table that is there, and what follows that
 numbered : (tables : List Table) (tag : ℕ) (rest : ℕ → Table → Rest → Result (Change × Rest) EntryFault) → AreFewTables tables
@@ -261,13 +257,13 @@ change_words : (c : Change) → tag_of c ∷ after_tag c ≡ change_bytes c
 change_words (Put t k r) = refl
 change_words (Delete t k) = refl
 
-pub change_codec : (tables : List Table) → AreFewTables tables → IsCodec (IsChange tables) change_bytes (next_change tables)
+pub change_codec : (tables : List Table) → AreFewTables tables → IsCodec (IsRecord tables) change_bytes (next_change tables)
 unfolding next_change
 change_codec tables few = same _ _ _ _ _
     (λ c h. (h, small_tag c))
     (λ c h. h.0)
     (λ c h. change_words c)
-    (seq tag_of IsByte one_byte entry_byte (IsChange tables) after_tag
+    (seq tag_of IsByte one_byte entry_byte (IsRecord tables) after_tag
     (λ at tag s. cond (eqb tag 1) (next_put tables s) (cond (eqb tag 2) (next_delete tables s) (Err (fault_at Tag at))))
     entry_byte_codec
     (λ at tag lt. either _ _ (eqb tag 1) (next_put tables) (λ s. cond (eqb tag 2) (next_delete tables s) (Err (fault_at Tag at)))
@@ -282,11 +278,11 @@ change_codec tables few = same _ _ _ _ _
 abbrev pub AreChanges : List Table → List Change → Type 0
 AreChanges tables cs = RecordsFit (map shape tables) cs × (HasOneTo MAX_RECORDS cs × All ChangeHasBytes cs)
 
-each_fits : (tables : List Table) (cs : List Change) → RecordsFit (map shape tables) cs → All ChangeHasBytes cs → AllByRecursion (IsChange tables) cs
+each_fits : (tables : List Table) (cs : List Change) → RecordsFit (map shape tables) cs → All ChangeHasBytes cs → AllByRecursion (IsRecord tables) cs
 each_fits tables [] h b = tt
 each_fits tables (c ∷ cs) h b = ((h.0, All-head ChangeHasBytes c cs b), each_fits tables cs h.1 (All-tail ChangeHasBytes c cs b))
 
-all_fit : (tables : List Table) (cs : List Change) → AllByRecursion (IsChange tables) cs → RecordsFit (map shape tables) cs × All ChangeHasBytes cs
+all_fit : (tables : List Table) (cs : List Change) → AllByRecursion (IsRecord tables) cs → RecordsFit (map shape tables) cs × All ChangeHasBytes cs
 all_fit tables [] h = (tt, All-nil ChangeHasBytes)
 all_fit tables (c ∷ cs) h =
     let rest = all_fit tables cs h.1 in
@@ -326,4 +322,4 @@ records_codec tables few = same _ _ _ _ _
     (λ cs h. (each_fits tables cs h.0.0 h.0.1.1, h.1))
     (λ cs h. let both = all_fit tables cs h.0 in let range = in_range n inside in ((both.0, ((omega (arith, h.1, range.0), omega (arith, h.1, range.1)), both.1)), h.1))
     (λ cs h. refl)
-    (times_codec (IsChange tables) change_bytes (next_change tables) (change_codec tables few) n))))
+    (times_codec (IsRecord tables) change_bytes (next_change tables) (change_codec tables few) n))))

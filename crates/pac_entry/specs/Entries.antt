@@ -1,5 +1,5 @@
 -- The bytes of transactions.
-use Rattle.std.specs.Prelude.{List, ℕ, ◌∷◌, ◌++◌, length}
+use Rattle.std.specs.Prelude.{List, ℕ, ◌∷◌, ◌++◌, length, map}
 use Rattle.std.specs.Int.{w16, to_le_bytes}
 use Rattle.std.specs.List.{flat_map, All}
 use Rattle.pac_value.specs.declared.values.Value.{Value}
@@ -9,8 +9,10 @@ use Rattle.pac_ops.specs.declared.transaction.Change.{Change}
 use Rattle.pac_ops.specs.declared.transaction.Change.TheVariants.{Put, Delete}
 use Rattle.pac_ops.specs.declared.transaction.Txn.{Txn}
 use Rattle.pac_ops.specs.declared.transaction.Txn.TheVariants.{Call, AdHoc}
+use Rattle.pac_ops.specs.Shapes.{ChangeFits}
 use Rattle.pac_ops.specs.Sizes.{HasOneTo}
-use Rattle.pac_types.specs.Fits.{TxnFits}
+use Rattle.pac_types.specs.declared.table.Table.{Table}
+use Rattle.pac_types.specs.Fits.{shape, TxnFits}
 use Rattle.pac_types.specs.Typing.{CatalogueState}
 use Rattle.pac_bytes.specs.Values.{HasBytes}
 use Rattle.pac_bytes.specs.Typed.{key_bytes, values_bytes}
@@ -33,6 +35,10 @@ txn_bytes (AdHoc records) = 2 ∷ (length records ∷ flat_map change_bytes reco
 abbrev pub ChangeHasBytes : Change → Type 0
 ChangeHasBytes (Put table key row) = HasBytes (key_value key) × All HasBytes row
 ChangeHasBytes (Delete table key) = HasBytes (key_value key)
+
+-- a record of one of the tables that has bytes
+abbrev pub IsRecord : List Table → Change → Type 0
+IsRecord tables change = ChangeFits (map shape tables) change × ChangeHasBytes change
 
 -- each value has bytes, and there are 1 to 64 records; every transaction is so by its type
 abbrev pub TxnHasBytes : Txn → Type 0

@@ -2,6 +2,7 @@
 use Rattle.std.specs.Prelude.{ℕ, List, length, Result, Ok, Err, slice_get, ok_or, nat_eq, nat_lt, ◌||◌, if◌then◌else◌}
 use Rattle.std.specs.Int.{w16}
 use Rattle.pac_value.specs.declared.values.Value.{Value}
+use Rattle.pac_value.specs.State.{Cell}
 use Rattle.pac_value.specs.Expressions.{◌>>=◌}
 use Rattle.pac_ops.specs.declared.limits.TheConstants.{MAX_RECORDS}
 use Rattle.pac_ops.specs.declared.transaction.Call.{Call}
@@ -60,6 +61,17 @@ next_delete tables s = entry_number s
 unfoldable pub next_change : List Table → Rest → Result (Change × Rest) EntryFault
 next_change tables s = entry_byte s
     >>= λ tag. if nat_eq tag.0 1 then next_put tables tag.1 else (if nat_eq tag.0 2 then next_delete tables tag.1 else Err (fault_at Tag s.at))
+
+-- where a record of one of the tables changes something, after its tag: the table's number, and a key of its type
+unfoldable pub next_place : List Table → Rest → Result (Cell × Rest) EntryFault
+next_place tables s = entry_number s
+    >>= λ n. ok_or (slice_get tables n.0) (fault_at UnknownTable s.at)
+    >>= λ table. reported_as (as_fault_of WrongRow) (next_key table.key n.1)
+    >>= λ key. Ok ((n.0, key.0), key.1)
+
+-- the cell that a record changes, read no further than its key
+unfoldable pub next_cell : List Table → Rest → Result (Cell × Rest) EntryFault
+next_cell tables s = entry_byte s >>= λ tag. if nat_eq tag.0 1 || nat_eq tag.0 2 then next_place tables tag.1 else Err (fault_at Tag s.at)
 
 -- the number of records, which is no less than one and not too large, and the records
 unfoldable pub next_records : List Table → Rest → Result (List Change × Rest) EntryFault

@@ -3,6 +3,8 @@
 //! - [`write_entry`]: appends the bytes of a transaction. [`entry_len`]: how many these are, at most [`MAX_ENTRY_LEN`].
 //! - [`read_entry`]: the transaction whose bytes stand at an offset, and the offset after it; or the first fault from
 //!   the left, an [`EntryFault`] of one of seven [`EntryFaultKind`]s.
+//! - [`put_change`], [`change_at`]: a record of an ad hoc transaction by itself. [`changed_cell_at`]: the cell that it
+//!   changes, read no further than its key.
 //! - [`row_at`], [`args_at`]: values of the types of some columns, as they stand in entries after their number.
 //!
 //! ```
@@ -33,6 +35,6 @@ mod writing;
 pub use fault::{EntryError, EntryFault, EntryFaultKind};
 pub use length::{MAX_ENTRY_LEN, entry_len};
 pub use limits::{BODY_HEAD_LEN, MAX_BODY_LEN};
-pub use reading::read_entry;
+pub use reading::{change_at, changed_cell_at, read_entry};
 pub use row::{args_at, row_at};
-pub use writing::write_entry;
+pub use writing::{put_change, write_entry};

@@ -10,8 +10,8 @@ ghost use Rattle.pac_bytes.specs.Readers.{Answers, AnswersUnlessMemory, Finds, F
 ghost use Rattle.pac_bytes.specs.Typed.{next_key};
 ghost use Rattle.pac_entry.specs.declared.fault.EntryFaultKind.TheVariants.{WrongRow};
 ghost use Rattle.pac_entry.specs.Kinds.{fault_at, as_fault_of};
-ghost use Rattle.pac_entry.specs.Entries.{txn_bytes, IsEntry};
-ghost use Rattle.pac_entry.specs.EntryReading.{entry_byte, entry_number, next_call, next_put, next_delete, next_change, next_records, next_entry};
+ghost use Rattle.pac_entry.specs.Entries.{change_bytes, txn_bytes, IsEntry, IsRecord};
+ghost use Rattle.pac_entry.specs.EntryReading.{entry_byte, entry_number, next_call, next_put, next_delete, next_change, next_place, next_cell, next_records, next_entry};
 
 use crate::fault::{error_of, fault_of};
 use crate::writing::{AD_HOC, CALL, DELETE, PUT};
@@ -22,6 +22,84 @@ use pac_ops::{Call, Change, MAX_RECORDS, Records, Txn};
 use pac_types::{Catalogue, Proc, Table};
 use pac_value::{Key, Ty};
 use std::alloc::Global;
+
+/// The record at an offset, a change of a row of one of the catalogue's tables, and the offset after it.
+///
+/// # Errors
+///
+/// The first fault from the left, or `NoMemory`, as [`read_entry`] reports them of a record: `Short`, `Tag`,
+/// `UnknownTable` or `WrongRow`.
+pub fn change_at(
+    alloc: Global,
+    cat: &Catalogue,
+    bytes: &[u8],
+    at: usize,
+) -> Result<(Change, usize), EntryError>
+    // It is what reading gives, or the first fault.
+    ensures exact { AnswersUnlessMemory bytes.now result (next_change cat.now.tables (from bytes.now at)) }
+    // What is found is written so, and fits the tables.
+    ensures found { Finds (IsRecord cat.now.tables) change_bytes bytes.now at result }
+    // What fits the tables and is written so is found, whatever follows.
+    ensures again { FindsSpelledUnlessMemory (IsRecord cat.now.tables) change_bytes bytes.now at result }
+{
+    let tables = cat.tables();
+    one_change_at(alloc, tables, bytes, at)
+}
+
+/// The cell that the record at an offset changes, its table's number and its key, and the offset after the key. What
+/// stands there is not looked at. Takes no memory.
+///
+/// # Errors
+///
+/// The first fault from the left, as [`change_at`] reports it, where it stands before the end of the key.
+pub fn changed_cell_at(
+    cat: &Catalogue,
+    bytes: &[u8],
+    at: usize,
+) -> Result<((u16, Key), usize), EntryFault>
+    ensures { Answers bytes.now result (next_cell cat.now.tables (from bytes.now at)) }
+{
+    let tables = cat.tables();
+    cell_at(tables, bytes, at)
+}
+
+#[tactic(auto, unfolding(crate::specs::EntryReading::next_cell))]
+fn cell_at(
+    tables: &[Table],
+    bytes: &[u8],
+    at: usize,
+) -> Result<((u16, Key), usize), EntryFault>
+    ensures { Answers bytes.now result (next_cell tables.now (from bytes.now at)) }
+{
+    let (tag, after) = byte_at(bytes, at)?;
+    match tag {
+        PUT | DELETE => place_at(tables, bytes, after),
+        _ => Err(EntryFault {
+            at,
+            kind: EntryFaultKind::Tag,
+        }),
+    }
+}
+
+// The table and the key of a record after its tag.
+#[tactic(auto, unfolding(crate::specs::EntryReading::next_place))]
+fn place_at(
+    tables: &[Table],
+    bytes: &[u8],
+    at: usize,
+) -> Result<((u16, Key), usize), EntryFault>
+    ensures { Answers bytes.now result (next_place tables.now (from bytes.now at)) }
+{
+    let (table, after) = number_at(bytes, at)?;
+    let Some(types) = tables.get(usize::from(table)) else {
+        return Err(EntryFault {
+            at,
+            kind: EntryFaultKind::UnknownTable,
+        });
+    };
+    let (key, end) = row_key_at(types.key, bytes, after)?;
+    Ok(((table, key), end))
+}
 
 /// The transaction whose entry stands at an offset, and the offset after it. It fits the catalogue. Bytes after the entry
 /// are not looked at. It takes no memory but for the transaction's own lists.
@@ -163,7 +241,7 @@ fn changes_at(
     let mut changes = Vec::with_capacity(alloc, count)?;
     let mut offset = at;
     for _ in 0..count {
-        let (change, end) = change_at(alloc, tables, bytes, offset)?;
+        let (change, end) = one_change_at(alloc, tables, bytes, offset)?;
         changes.push(change)?;
         offset = end;
     }
@@ -171,7 +249,7 @@ fn changes_at(
 }
 
 #[tactic(auto, unfolding(crate::specs::EntryReading::next_change))]
-fn change_at(
+fn one_change_at(
     alloc: Global,
     tables: &[Table],
     bytes: &[u8],

@@ -73,7 +73,12 @@ fn put_each(out: &mut Vec<u8>, values: &[Value]) -> Result<(), NoMemory>
     Ok(())
 }
 
-fn put_change(out: &mut Vec<u8>, change: &Change) -> Result<(), NoMemory>
+/// Appends a record: a change of one row, as it stands in the entry of an ad hoc transaction.
+///
+/// # Errors
+///
+/// `NoMemory` alone.
+pub fn put_change(out: &mut Vec<u8>, change: &Change) -> Result<(), NoMemory>
     ensures bytes { OnOk result (Grew out.old.items out.new.items (change_bytes change.now)) }
     ensures form { OnOk result (ChangeHasBytes change.now) }
 {

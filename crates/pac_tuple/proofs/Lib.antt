@@ -1,0 +1,4 @@
+pub mod CellLemmas
+pub mod ImageLemmas
+pub mod ReadingLemmas
+pub mod AfterLemmas

@@ -1,0 +1,43 @@
+-- The after-images of a transaction, and their bytes.
+use Rattle.std.specs.Prelude.{◌≤◌, ℕ, Bool, true, List, [], ◌∷◌, ◌++◌, length, Option, Some, None, IsTrue}
+use Rattle.std.specs.Ordering.{is_lt}
+use Rattle.std.specs.Int.{w16, to_le_bytes}
+use Rattle.std.specs.List.{flat_map, AllByRecursion}
+use Rattle.pac_value.specs.State.{Cell, cell_cmp, RowValues}
+use Rattle.pac_ops.specs.declared.transaction.Change.{Change}
+use Rattle.pac_ops.specs.declared.transaction.Change.TheVariants.{Put, Delete}
+use Rattle.pac_types.specs.declared.table.Table.{Table}
+use Rattle.pac_entry.specs.Entries.{change_bytes, IsRecord}
+use Rattle.pac_tuple.specs.declared.images.TheConstants.{MAX_IMAGES}
+
+-- where an after-image stands
+abbrev pub image_cell : Change → Cell
+image_cell (Put table key row) = (table, key)
+image_cell (Delete table key) = (table, key)
+
+-- the row that the transaction left there, or none
+abbrev pub image_row : Change → Option RowValues
+image_row (Put table key row) = Some row
+image_row (Delete table key) = None
+
+-- the cell is above the last one, where there was one
+abbrev pub is_above : Option Cell → Cell → Bool
+is_above None cell = true
+is_above (Some last) cell = is_lt (cell_cmp last cell)
+
+-- each cell is above the one before, and the first above the last one, where there was one
+abbrev pub AscendAfter : Option Cell → List Change → Type 0
+AscendAfter last [] = Unit {0}
+AscendAfter last (image ∷ images) = IsTrue (is_above last (image_cell image)) × AscendAfter (Some (image_cell image)) images
+
+-- images that a transaction may leave: few of them, each at a cell of its own, in the order of the cells
+abbrev pub AreImages : List Change → Type 0
+AreImages images = (length images ≤ MAX_IMAGES) × AscendAfter None images
+
+-- images of these tables that have bytes
+abbrev pub AreImagesOf : List Table → List Change → Type 0
+AreImagesOf tables images = AreImages images × AllByRecursion (IsRecord tables) images
+
+-- a list is the tag 3, the number of images, and the images as records
+abbrev pub images_bytes : List Change → List ℕ
+images_bytes images = 3 ∷ (to_le_bytes w16 (length images) ++ flat_map change_bytes images)

@@ -1,0 +1,5 @@
+pub mod Kinds
+pub mod Images
+pub mod ImageReading
+pub mod Laying
+pub mod AfterImages

@@ -1,0 +1,28 @@
+//! The log of after-images: what each transaction wrote, as lists of rows and of absences.
+//!
+//! - [`TxnImages`]: the after-images of one transaction. [`Images`]: those of many, a list for each.
+//! - [`write_images`]: appends the bytes of a list. [`images_at`], [`read_images`]: the list at an offset, or the first
+//!   fault from the left, an [`ImageFault`] of one of six [`ImageFaultKind`]s.
+//! - [`after_images_laid_are_serial_execution`]: a law, that laying the after-images of transactions gives what executing
+//!   them gives.
+//!
+//! A list is the byte 3, the number of its images in two bytes, and the images, which are records of `pac_entry` at
+//! ascending cells. `specs/Images.antt` says what lists and their bytes are, `specs/ImageReading.antt` how they are read,
+//! line by line with the faults; `proofs/ImageLemmas.antt` shows that they agree. Bytes after a list are not looked at.
+//! `specs/AfterImages.antt` says what the after-images of a transaction are: the cells that its executed operations write,
+//! each with what stands there once it has ended. `specs/Laying.antt` says what laying lists makes of the tables.
+#![tactic(auto)]
+
+mod fault;
+mod images;
+mod laws;
+mod reading;
+#[cfg(test)]
+mod tests;
+mod writing;
+
+pub use fault::{ImageError, ImageFault, ImageFaultKind};
+pub use images::{Images, MAX_IMAGES, TxnImages, TxnImagesRule};
+pub use laws::after_images_laid_are_serial_execution;
+pub use reading::{images_at, read_images};
+pub use writing::write_images;
