@@ -9,12 +9,12 @@ use Rattle.pac_plan.specs.Pieces.{is_piece, adds, precedes}
 use Rattle.pac_commute.specs.Exchange.{HoldsPreds}
 use Rattle.pac_commute.specs.Loads.{Job, begin, next_in_job, loaded, and_batch, LoadKeeps}
 use Rattle.pac_commute.specs.PartialFits.{TxnsFitPlan}
-use Rattle.pac_commute.specs.Machine.{Machine, world_at, pieces_at, ends_at, PredsFinished, IsReadyAt, StepBy, Loaded, Given, Ran, Kept, GivenBack, Keeps, KeepsOrder, OutsUnordered}
+use Rattle.pac_commute.specs.Machine.{Machine, world_at, pieces_at, ends_at, PredsFinished, IsReadyAt, StepBy, Loaded, Given, Ran, Kept, GivenBack, KeepsJob, KeepsPrecedence, OutsUnordered}
 use Rattle.pac_base.proofs.TestLemmas.{or_right, or_cases, unlike}
 use Rattle.pac_commute.proofs.Steps.{keeps_load, old_finished, same_piece, still_out}
 
 module _ (job : Job) (is : IsPlan job.parts) where
-  module _ (m : Machine) (order : KeepsOrder job m) where
+  module _ (m : Machine) (order : KeepsPrecedence job m) where
     -- p is finished now
     finishes : (p : PieceId) → PredsFinished job m p → HoldsPreds (world_at job m) (ends_at job m) (pieces_at job m) (adds m.finished p)
     finishes p preds q r mq mr pr picked = or_right (is_piece p q) (m.finished q) (⊎_elim
@@ -23,7 +23,7 @@ module _ (job : Job) (is : IsPlan job.parts) where
         (or_cases (is_piece p r) (m.finished r) picked))
 
     -- one more batch
-    module _ (inv : Keeps job m) (batch : Batch) (next : batch.first ≡ next_in_job job m.batches) (fits : TxnsFitPlan job.parts batch.txns) where
+    module _ (inv : KeepsJob job m) (batch : Batch) (next : batch.first ≡ next_in_job job m.batches) (fits : TxnsFitPlan job.parts batch.txns) where
       abbrev m' : Machine
       m' = record m { batches = and_batch m.batches batch; now = loaded (next_in_job job m.batches) (begin job (and_batch m.batches batch)).envs m.now }
 
@@ -39,13 +39,13 @@ module _ (job : Job) (is : IsPlan job.parts) where
           go true h = let lp : p.txn < next_in_job job m.batches = grind (arith, nat_tests) in f (load.old p mp lp) (sym (load.precedence p q lp lt) ∙ pr)
           go false h = let le : next_in_job job m.batches ≤ p.txn = grind (arith, nat_tests) in absurd (true≢false (sym pr ∙ load.later p q le lt))
 
-      load_order : KeepsOrder job m'
+      load_order : KeepsPrecedence job m'
       load_order = record {
         closed = λ p q mp mq pr f. preds_kept p q mp (old_finished job is m inv batch next fits q f) pr (λ k r. order.closed p q k (load.old q mq (old_finished job is m inv batch next fits q f)) r f);
         outs = λ p o q mq pr. preds_kept q p mq (load.there p (inv.outs p o).there).0 pr (λ k r. order.outs p o q k r);
       }
 
-  pub keeps_order : {m n : Machine} → StepBy job (IsReadyAt job) m n → Keeps job m → KeepsOrder job m → KeepsOrder job n
+  pub keeps_order : {m n : Machine} → StepBy job (IsReadyAt job) m n → KeepsJob job m → KeepsPrecedence job m → KeepsPrecedence job n
   keeps_order (Loaded m batch next fits) inv order = load_order m order inv batch next fits
   keeps_order (Given m p ready keys) inv order = record {
     closed = order.closed;

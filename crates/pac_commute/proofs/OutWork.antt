@@ -12,7 +12,7 @@ use Rattle.pac_base.specs.Members.{Mem}
 use Rattle.pac_plan.specs.Pieces.{is_piece, adds, ops, apply, covers, covers_write, Location, RowOf, VarOf, at_location, touches, writes}
 use Rattle.pac_commute.specs.Works.{IsWork, worked, IsOutcome}
 use Rattle.pac_commute.specs.Loads.{Job, begin, next_in_job, loaded, and_batch}
-use Rattle.pac_commute.specs.Machine.{Machine, world_at, pieces_at, ends_at, access_at, NeedsFinished, MayBeTaken, StepBy, Loaded, Given, Ran, Kept, GivenBack, StaysOutBy, IsOutBy, Keeps, FindsTheSame}
+use Rattle.pac_commute.specs.Machine.{Machine, world_at, pieces_at, ends_at, access_at, NeedsFinished, MayBeTaken, StepBy, Loaded, Given, Ran, Kept, GivenBack, StaysOutBy, IsOutBy, KeepsJob, FindsTheSame}
 use Rattle.pac_commute.specs.Machine as machine
 use Rattle.pac_base.proofs.TestLemmas.{or_left, or_right, eq_self, same_number, and_left, and_both}
 use Rattle.pac_commute.proofs.PlanFacts.{well_formed_plan, needs_plan, undisturbed_plan}
@@ -50,7 +50,7 @@ module _ (job : Job) (is : IsPlan job.parts) (p : PieceId) where
   }
 
   -- another piece is applied
-  other : (m : Machine) → Keeps job m → m.out p ≡ true → (q : PieceId) → Mem q (pieces_at job m) → m.finished q ≡ false → NeedsFinished job m q → (p ≡ q → ⊥)
+  other : (m : Machine) → KeepsJob job m → m.out p ≡ true → (q : PieceId) → Mem q (pieces_at job m) → m.finished q ≡ false → NeedsFinished job m q → (p ≡ q → ⊥)
       → (c : Location) → touches (world_at job m) (ends_at job m) p c ≡ true → at_location (apply (world_at job m) q m.now) c ≡ at_location m.now c
   other m inv out q mq unfinished preds differ c t =
       let o = inv.outs p out in
@@ -60,7 +60,7 @@ module _ (job : Job) (is : IsPlan job.parts) (p : PieceId) where
       o.needed preds c t
       ∙ ap (λ z. at_location z c) (sym inv.now)
 
-  step_same : {m n : Machine} → StepBy job (MayBeTaken job) m n → Keeps job m → m.out p ≡ true → n.out p ≡ true → Same m n
+  step_same : {m n : Machine} → StepBy job (MayBeTaken job) m n → KeepsJob job m → m.out p ≡ true → n.out p ≡ true → Same m n
   step_same (Loaded m batch next fits) inv out out' =
       let k = keeps_load job is m inv batch next fits in
       let old = (k.there p (inv.outs p out).there).0 in
@@ -93,11 +93,11 @@ module _ (job : Job) (is : IsPlan job.parts) (p : PieceId) where
       }
   step_same (GivenBack m out still) inv o o' = stays_put m (record m { out = out }) refl refl refl refl
 
-  all_same : {m n : Machine} → StaysOutBy job (MayBeTaken job) p m n → Keeps job m → m.out p ≡ true → Same m n
+  all_same : {m n : Machine} → StaysOutBy job (MayBeTaken job) p m n → KeepsJob job m → m.out p ≡ true → Same m n
   all_same (machine.StaysOutBy.Stop m) inv out = stays_put m m refl refl refl refl
   all_same (machine.StaysOutBy.Then m n o step out' more) inv out = both m n o (step_same step inv out out') (all_same more (keeps job is step inv) out')
 
-  pub work_stays : {m n : Machine} → StaysOutBy job (MayBeTaken job) p m n → Keeps job m → m.out p ≡ true → FindsTheSame job p m n
+  pub work_stays : {m n : Machine} → StaysOutBy job (MayBeTaken job) p m n → KeepsJob job m → m.out p ≡ true → FindsTheSame job p m n
   work_stays {m} {n} stays inv out = let same = all_same stays inv out in let o = inv.outs p out in record {
     operations = same.operations;
     vars = same.vars;

@@ -14,7 +14,7 @@ use Rattle.pac_commute.specs.Exchange.{HoldsNeeds}
 use Rattle.pac_commute.specs.PlanLaws.{txns_of, AllInTables}
 use Rattle.pac_commute.specs.PartialFits.{TxnIsOfPlan, TxnsFitPlan}
 use Rattle.pac_commute.specs.Loads.{Job, begin, next_in_job, loaded, and_batch, LoadKeeps}
-use Rattle.pac_commute.specs.Machine.{Machine, among, drops, world_at, pieces_at, ends_at, NeedsFinished, PredsFinished, MayBeTaken, IsReadyAt, StepBy, Loaded, Given, Ran, Kept, GivenBack, StepsBy, IsOutBy, Keeps, OpensJob, ReadyMayBeTaken, OrderedSteps, OutsApart, HaveInputs}
+use Rattle.pac_commute.specs.Machine.{Machine, among, drops, world_at, pieces_at, ends_at, NeedsFinished, PredsFinished, MayBeTaken, IsReadyAt, StepBy, Loaded, Given, Ran, Kept, GivenBack, StepsBy, IsOutBy, KeepsJob, OpensJob, ReadyMayBeTaken, OrderedSteps, OutsApart, HaveInputs}
 use Rattle.pac_commute.specs.Machine as machine
 use Rattle.pac_base.proofs.TestLemmas.{or_left, or_right, eq_self, and_left, and_right, and_both, not_true, or_cases, any_gives, unlike}
 use Rattle.pac_commute.proofs.BatchLemmas.{get-first, get-second, txns-more, run_on-more}
@@ -86,7 +86,7 @@ ordered_steps job is m n step = steps_by job (IsReadyAt job) (MayBeTaken job) (m
 
 -- ---- what is kept
 
-pub in_tables : (job : Job) (m : Machine) → Keeps job m → AllInTables job.parts (txns_of m.batches)
+pub in_tables : (job : Job) (m : Machine) → KeepsJob job m → AllInTables job.parts (txns_of m.batches)
 in_tables job m inv = records_in_tables job.parts (txns_of m.batches) inv.fit
 
 -- where one piece is out no more, the others that are out are others
@@ -96,7 +96,7 @@ still_out F p q e = (and_left (F q) (not (is_piece p q)) e, not_true (is_piece p
 module _ (job : Job) (is : IsPlan job.parts) where
   -- ---- a piece is finished
 
-  module _ (m : Machine) (inv : Keeps job m) where
+  module _ (m : Machine) (inv : KeepsJob job m) where
     abbrev w : World
     w = world_at job m
 
@@ -114,7 +114,7 @@ module _ (job : Job) (is : IsPlan job.parts) where
         (or_cases (is_piece p r) (m.finished r) picked))
 
     finish : (p : PieceId) → Mem p L → m.finished p ≡ false → NeedsFinished job m p → (out : PieceId → Bool) → ((q : PieceId) → out q ≡ true → (m.out q ≡ true) × (is_piece p q ≡ false))
-        → Keeps job (record { batches = m.batches; out = out; finished = adds m.finished p; now = apply w p m.now })
+        → KeepsJob job (record { batches = m.batches; out = out; finished = adds m.finished p; now = apply w p m.now })
     finish p there unfinished needed out still = record {
       run_on = inv.run_on;
       fit = inv.fit;
@@ -162,7 +162,7 @@ module _ (job : Job) (is : IsPlan job.parts) where
             keys = λ whole. o.keys (sym (keeps_load.accesses p old.0) ∙ whole);
           }
 
-      load_keeps : Keeps job m'
+      load_keeps : KeepsJob job m'
       load_keeps = record {
         run_on = run_on-more job.first m.batches batch inv.run_on next;
         fit = subst (TxnsFitPlan job.parts) (sym (txns-more m.batches batch)) (fit_more job.parts (txns_of m.batches) batch.txns inv.fit fits);
@@ -175,7 +175,7 @@ module _ (job : Job) (is : IsPlan job.parts) where
 
   -- ---- each step
 
-  pub keeps : {m n : Machine} → StepBy job (MayBeTaken job) m n → Keeps job m → Keeps job n
+  pub keeps : {m n : Machine} → StepBy job (MayBeTaken job) m n → KeepsJob job m → KeepsJob job n
   keeps (Loaded m batch next fits) inv = load_keeps m inv batch next fits
   keeps (Given m p may keys) inv = record {
     run_on = inv.run_on;
@@ -200,7 +200,7 @@ module _ (job : Job) (is : IsPlan job.parts) where
     now = inv.now;
   }
 
-  pub runs_keep : {m n : Machine} → StepsBy job (MayBeTaken job) m n → Keeps job m → Keeps job n
+  pub runs_keep : {m n : Machine} → StepsBy job (MayBeTaken job) m n → KeepsJob job m → KeepsJob job n
   runs_keep (machine.StepsBy.Stop m) inv = inv
   runs_keep (machine.StepsBy.Then m n o step steps) inv = runs_keep steps (keeps step inv)
 

@@ -115,7 +115,7 @@ pub record IsOutBy (job : Job) (m : Machine) (p : PieceId) : Type 0 where
 
 -- the numbers of what is loaded run on, and its transactions fit the plan; what each finished piece needs is finished, and what is
 -- finished is loaded; what is out is as above; the state is the partial replay of what is finished
-pub record Keeps (job : Job) (m : Machine) : Type 0 where
+pub record KeepsJob (job : Job) (m : Machine) : Type 0 where
   pub run_on : NumbersRunOn job.first m.batches
   pub fit : TxnsFitPlan job.parts (txns_of m.batches)
   pub closed : HoldsNeeds (world_at job m) (ends_at job m) (pieces_at job m) m.finished
@@ -124,21 +124,21 @@ pub record Keeps (job : Job) (m : Machine) : Type 0 where
   pub now : m.now ≡ partial (world_at job m) m.finished (pieces_at job m) (begin job m.batches)
 
 -- by precedence more is kept: the predecessors of what is finished are finished, and those of what is out
-pub record KeepsOrder (job : Job) (m : Machine) : Type 0 where
+pub record KeepsPrecedence (job : Job) (m : Machine) : Type 0 where
   pub closed : HoldsPreds (world_at job m) (ends_at job m) (pieces_at job m) m.finished
   pub outs : (p : PieceId) → m.out p ≡ true → PredsFinished job m p
 
 -- a machine with nothing loaded keeps both
 abbrev pub OpensJob : Type 0
-OpensJob = (job : Job) → Keeps job (opening_machine job) × KeepsOrder job (opening_machine job)
+OpensJob = (job : Job) → KeepsJob job (opening_machine job) × KeepsPrecedence job (opening_machine job)
 
 -- each step keeps the first, whatever readiness takes pieces, as long as they may be taken
 abbrev pub StepsKeep : Type 0
-StepsKeep = (job : Job) → IsPlan job.parts → (m n : Machine) → StepBy job (MayBeTaken job) m n → Keeps job m → Keeps job n
+StepsKeep = (job : Job) → IsPlan job.parts → (m n : Machine) → StepBy job (MayBeTaken job) m n → KeepsJob job m → KeepsJob job n
 
 -- and so does each list of steps
 abbrev pub RunsKeep : Type 0
-RunsKeep = (job : Job) → IsPlan job.parts → (m n : Machine) → StepsBy job (MayBeTaken job) m n → Keeps job m → Keeps job n
+RunsKeep = (job : Job) → IsPlan job.parts → (m n : Machine) → StepsBy job (MayBeTaken job) m n → KeepsJob job m → KeepsJob job n
 
 -- what is ready by precedence may be taken
 abbrev pub ReadyMayBeTaken : Type 0
@@ -150,23 +150,23 @@ OrderedSteps = (job : Job) → IsPlan job.parts → (m n : Machine) → StepBy j
 
 -- each of them keeps the order too
 abbrev pub StepsKeepOrder : Type 0
-StepsKeepOrder = (job : Job) → IsPlan job.parts → (m n : Machine) → StepBy job (IsReadyAt job) m n → Keeps job m → KeepsOrder job m → KeepsOrder job n
+StepsKeepOrder = (job : Job) → IsPlan job.parts → (m n : Machine) → StepBy job (IsReadyAt job) m n → KeepsJob job m → KeepsPrecedence job m → KeepsPrecedence job n
 
 -- ---- pieces that are out
 
 -- of two pieces that are out neither needs the other, and their accesses don't conflict
 abbrev pub OutsApart : Type 0
-OutsApart = (job : Job) → IsPlan job.parts → (m : Machine) → Keeps job m → (p q : PieceId) → m.out p ≡ true → m.out q ≡ true → (p ≡ q → ⊥)
+OutsApart = (job : Job) → IsPlan job.parts → (m : Machine) → KeepsJob job m → (p q : PieceId) → m.out p ≡ true → m.out q ≡ true → (p ≡ q → ⊥)
     → (needs (world_at job m) (ends_at job m) p q ≡ false) × (conflicts (access_at job m p) (access_at job m q) ≡ false)
 
 -- and neither precedes the other, where they are taken by precedence
 abbrev pub OutsUnordered : Type 0
-OutsUnordered = (job : Job) (m : Machine) → Keeps job m → KeepsOrder job m → (p q : PieceId) → m.out p ≡ true → m.out q ≡ true
+OutsUnordered = (job : Job) (m : Machine) → KeepsJob job m → KeepsPrecedence job m → (p q : PieceId) → m.out p ≡ true → m.out q ≡ true
     → precedes (world_at job m) (ends_at job m) p q ≡ false
 
 -- a piece that has what it needs, so one that is out or may be taken, has its inputs
 abbrev pub HaveInputs : Type 0
-HaveInputs = (job : Job) → IsPlan job.parts → (m : Machine) → Keeps job m
+HaveInputs = (job : Job) → IsPlan job.parts → (m : Machine) → KeepsJob job m
     → (p : PieceId) → NeedsFinished job m p → HasInputs (world_at job m) (ends_at job m) p m.now
 
 -- what a piece finds is what it found before: its operations, the types of its variables and its access, and all that it
@@ -182,19 +182,19 @@ pub record FindsTheSame (job : Job) (p : PieceId) (m n : Machine) : Type 0 where
 
 -- whatever steps are made while a piece stays out, it finds what it found when it was given out
 abbrev pub WorkStays : Type 0
-WorkStays = (job : Job) → IsPlan job.parts → (m n : Machine) (p : PieceId) → Keeps job m → m.out p ≡ true → StaysOutBy job (MayBeTaken job) p m n → FindsTheSame job p m n
+WorkStays = (job : Job) → IsPlan job.parts → (m n : Machine) (p : PieceId) → KeepsJob job m → m.out p ≡ true → StaysOutBy job (MayBeTaken job) p m n → FindsTheSame job p m n
 
 -- ---- what fits, and the end
 
 -- where the opening tables fit, rows and variables fit, and each piece that has what it needs finds what it uses, at every operation
 -- whose conditions hold
 abbrev pub MachineFits : Type 0
-MachineFits = (job : Job) → IsPlan job.parts → RowsFit job.parts.tables job.tables → (m : Machine) → Keeps job m
+MachineFits = (job : Job) → IsPlan job.parts → RowsFit job.parts.tables job.tables → (m : Machine) → KeepsJob job m
     → PresentFits job.parts (world_at job m) m.now
     × ((p : PieceId) → NeedsFinished job m p → StaysFitAt job.parts.tables ((world_at job m).vars p.txn) (ops (world_at job m) p) (of_txn p.txn m.now))
 
 -- a machine whose pieces are all finished has the replayed tables and their first note
 abbrev pub MachineEnds : Type 0
-MachineEnds = (job : Job) → IsPlan job.parts → (m : Machine) → Keeps job m → ((p : PieceId) → Mem p (pieces_at job m) → m.finished p ≡ true)
+MachineEnds = (job : Job) → IsPlan job.parts → (m : Machine) → KeepsJob job m → ((p : PieceId) → Mem p (pieces_at job m) → m.finished p ≡ true)
     → (m.now.tables ≡ (replayed job.parts.programs job.first (txns_of m.batches) job.tables).tables)
     × (m.now.note ≡ first_note (replayed job.parts.programs job.first (txns_of m.batches) job.tables).notes)

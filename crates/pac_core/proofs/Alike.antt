@@ -4,7 +4,7 @@ use Rattle.pac_base.specs.Members.{Mem}
 use Rattle.pac_ops.specs.declared.piece.PieceId.{PieceId}
 use Rattle.pac_plan.specs.Pieces.{Present}
 use Rattle.pac_commute.specs.Loads.{begin}
-use Rattle.pac_commute.specs.Machine.{IsOutBy, Keeps, KeepsOrder, Machine, among, world_at}
+use Rattle.pac_commute.specs.Machine.{IsOutBy, KeepsJob, KeepsPrecedence, Machine, among, world_at}
 use Rattle.pac_commute.proofs.Steps.{among_mem}
 use Rattle.pac_commute.proofs.Theorem.{same_picks}
 use Rattle.pac_core.specs.Replay.{Replay, loaded_pieces, machine_of, present_of}
@@ -13,7 +13,7 @@ module _ (r : Replay) (out finished : PieceId → Bool) (now : Present) where
   abbrev n : Machine
   n = record { batches = r.batches; out = out; finished = finished; now = now }
 
-  module _ (inv : Keeps r.job n) (same : (q : PieceId) → Mem q (loaded_pieces r) → among r.finished q ≡ finished q) (loaded : (q : PieceId) → Mem q r.finished → Mem q (loaded_pieces r))
+  module _ (inv : KeepsJob r.job n) (same : (q : PieceId) → Mem q (loaded_pieces r) → among r.finished q ≡ finished q) (loaded : (q : PieceId) → Mem q r.finished → Mem q (loaded_pieces r))
       (outs : (q : PieceId) → Mem q r.out → out q ≡ true) where
     -- the state is the same
     pub present_is : now ≡ present_of r
@@ -30,7 +30,7 @@ module _ (r : Replay) (out finished : PieceId → Bool) (now : Present) where
         }
 
     -- and the same is kept
-    pub invariant_is : Keeps r.job (machine_of r)
+    pub invariant_is : KeepsJob r.job (machine_of r)
     invariant_is = record {
       run_on = inv.run_on;
       fit = inv.fit;
@@ -41,7 +41,7 @@ module _ (r : Replay) (out finished : PieceId → Bool) (now : Present) where
     }
 
     -- so is the order
-    pub order_is : KeepsOrder r.job n → KeepsOrder r.job (machine_of r)
+    pub order_is : KeepsPrecedence r.job n → KeepsPrecedence r.job (machine_of r)
     order_is order = record {
       closed = λ p q mp mq pr f. same p mp ∙ order.closed p q mp mq pr (sym (same q mq) ∙ f);
       outs = λ p o q mq pr. same q mq ∙ order.outs p (outs p (among_mem r.out p o)) q mq pr;

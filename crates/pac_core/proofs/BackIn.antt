@@ -15,7 +15,7 @@ use Rattle.pac_sched.proofs.StateLemmas.{get_same}
 use Rattle.pac_sets.specs.declared.set_id.SetId.{SetId}
 use Rattle.pac_sets.specs.Sets.{Kept, with_kept_at}
 use Rattle.pac_commute.specs.Loads.{Job}
-use Rattle.pac_commute.specs.Machine.{Keeps, KeepsOrder, Machine, among}
+use Rattle.pac_commute.specs.Machine.{KeepsJob, KeepsPrecedence, Machine, among}
 use Rattle.pac_commute.proofs.Steps as steps
 use Rattle.pac_core.specs.declared.progress.Progress.{Progress}
 use Rattle.pac_core.specs.declared.stage.OpenSet.{OpenSet}
@@ -83,10 +83,10 @@ module _ (job : Job) (p : Progress) (keeps : KeepsProgress job p) (at : ℕ) (id
   finished_loaded : (q : PieceId) → Mem q r.finished → Mem q (loaded_pieces r)
   finished_loaded q mem = (filter_of (λ q. is_finished (mark_in (batches_of p) p.sets.sets q)) (loaded_pieces r) q mem).0
 
-  invariant_now : Keeps job (machine_of (without_out r piece))
+  invariant_now : KeepsJob job (machine_of (without_out r piece))
   invariant_now = invariant_is (without_out r piece) m.out m.finished m.now keeps.machine (λ q mem. refl) finished_loaded out_among
 
-  order_now : KeepsOrder job (machine_of (without_out r piece))
+  order_now : KeepsPrecedence job (machine_of (without_out r piece))
   order_now = order_is (without_out r piece) m.out m.finished m.now keeps.machine (λ q mem. refl) finished_loaded out_among keeps.order
 
   pub present_now : m.now ≡ present_of (without_out r piece)
@@ -162,8 +162,8 @@ module _ (job : Job) (p : Progress) (keeps : KeepsProgress job p) (at : ℕ) (id
     blocks = keeps.blocks;
     is_plan = keeps.is_plan;
     fit = keeps.fit;
-    machine = subst (λ (x : Replay). Keeps job (machine_of x)) (sym back_now) invariant_now;
-    order = subst (λ (x : Replay). KeepsOrder job (machine_of x)) (sym back_now) order_now;
+    machine = subst (λ (x : Replay). KeepsJob job (machine_of x)) (sym back_now) invariant_now;
+    order = subst (λ (x : Replay). KeepsPrecedence job (machine_of x)) (sym back_now) order_now;
     note = keeps.note ∙ ap (λ (s : Present). s.note) present_now ∙ ap (λ (x : Replay). (present_of x).note) (sym back_now);
     next = keeps.next;
     unfinished = keeps.unfinished ∙ ap left (sym back_now);

@@ -15,7 +15,7 @@ use Rattle.pac_sets.specs.SetOrder.{set_cmp}
 use Rattle.pac_sets.specs.Sets.{Kept, Setting}
 use Rattle.pac_undo.specs.Undo.{Undoable}
 use Rattle.pac_commute.specs.Loads.{Job, begin, next_in_job}
-use Rattle.pac_commute.specs.Machine.{Keeps, KeepsOrder, among}
+use Rattle.pac_commute.specs.Machine.{KeepsJob, KeepsPrecedence, among}
 use Rattle.pac_commute.specs.PartialFits.{TxnsFitPlan}
 use Rattle.pac_commute.proofs.Ends.{machine_ends}
 use Rattle.pac_commute.proofs.MachineFit.{machine_fits}
@@ -60,8 +60,8 @@ module _ (job : Job) (p new : Progress) (a : IsAlike p new) (keeps : KeepsProgre
     blocks = ap (λ (s : Setting SetStage). s.blocks) a.sets ∙ keeps.blocks ∙ ap (λ (parts : PlanParts). parts.blocks) (sym a.pieces);
     is_plan = keeps.is_plan;
     fit = keeps.fit;
-    machine = subst (λ (x : Replay). Keeps job (machine_of x)) (sym alike_same) keeps.machine;
-    order = subst (λ (x : Replay). KeepsOrder job (machine_of x)) (sym alike_same) keeps.order;
+    machine = subst (λ (x : Replay). KeepsJob job (machine_of x)) (sym alike_same) keeps.machine;
+    order = subst (λ (x : Replay). KeepsPrecedence job (machine_of x)) (sym alike_same) keeps.order;
     note = a.note_is ∙ keeps.note ∙ ap (λ (x : Replay). (present_of x).note) (sym alike_same);
     next = a.next ∙ keeps.next ∙ ap (next_in_job job) (sym batches_same);
     unfinished = a.unfinished ∙ keeps.unfinished ∙ ap left (sym alike_same);
@@ -162,9 +162,9 @@ module _ (parts : PlanParts) (is_plan : IsPlan parts) (first : ℕ) (tables : Ta
     blocks = ap (λ (s : Setting SetStage). s.blocks) opening.sets ∙ ap (λ (x : PlanParts). x.blocks) (sym opening.pieces);
     is_plan = is_plan;
     fit = fit;
-    machine = subst (λ (x : Replay). Keeps opened_job (machine_of x)) (sym opening_is)
+    machine = subst (λ (x : Replay). KeepsJob opened_job (machine_of x)) (sym opening_is)
         (invariant_is (opening_replay opened_job) (among []) (among []) (begin opened_job []) (steps.opens opened_job).0 (λ q mem. refl) (λ q mem. absurd mem) (λ q mem. absurd mem));
-    order = subst (λ (x : Replay). KeepsOrder opened_job (machine_of x)) (sym opening_is)
+    order = subst (λ (x : Replay). KeepsPrecedence opened_job (machine_of x)) (sym opening_is)
         (order_is (opening_replay opened_job) (among []) (among []) (begin opened_job []) (steps.opens opened_job).0 (λ q mem. refl) (λ q mem. absurd mem) (λ q mem. absurd mem) (steps.opens opened_job).1);
     note = opening.note ∙ ap (λ (s : Present). s.note) (present_is (opening_replay opened_job) (among []) (among []) (begin opened_job []) (steps.opens opened_job).0 (λ q mem. refl) (λ q mem. absurd mem) (λ q mem. absurd mem))
         ∙ ap (λ (x : Replay). (present_of x).note) (sym opening_is);

@@ -16,7 +16,7 @@ use Rattle.pac_tables.specs.declared.writes.Write.{Write}
 use Rattle.pac_piece.specs.Frames.{give_value}
 use Rattle.pac_piece.specs.Values.{IsEndOver, state_over}
 use Rattle.pac_piece.proofs.KeptLemmas.{none_given_stays}
-use Rattle.pac_interface.specs.Interfaces.{is_used_outside}
+use Rattle.pac_keys.specs.Interfaces.{is_used_outside}
 use Rattle.pac_commute.specs.Works.{given_over}
 use Rattle.pac_core.specs.Inputs.{FindsInputs, LeavesValues, is_found, is_passed_on}
 

@@ -25,7 +25,7 @@ use Rattle.pac_plan.specs.Worlds.{blocks_in}
 use Rattle.pac_plan.proofs.PartLemmas.{part-mem}
 use Rattle.pac_plan.proofs.WorldLemmas.{rises-range}
 use Rattle.pac_tables.specs.declared.writes.Write.{Write}
-use Rattle.pac_interface.proofs.OutputLemmas.{inputs_are_outputs}
+use Rattle.pac_keys.proofs.OutputLemmas.{inputs_are_outputs}
 use Rattle.pac_batch.specs.Sets.{set_of}
 use Rattle.pac_sched.specs.declared.state.PieceState.{PieceState}
 use Rattle.pac_sched.specs.declared.state.PieceState.TheVariants as state
@@ -35,7 +35,7 @@ use Rattle.pac_sets.specs.Sets.{Kept, WaitsForNothing, with_kept_at}
 use Rattle.pac_sets.specs.SetOrder.{set_cmp}
 use Rattle.pac_commute.specs.Loads.{Job, next_in_job}
 use Rattle.pac_commute.specs.PlanLaws.{numbers_of, txns_of}
-use Rattle.pac_commute.specs.Machine.{Keeps, KeepsOrder, Machine, among, world_at}
+use Rattle.pac_commute.specs.Machine.{KeepsJob, KeepsPrecedence, Machine, among, world_at}
 use Rattle.pac_commute.specs.Works.{given_over}
 use Rattle.pac_commute.proofs.Steps.{piece_self}
 use Rattle.pac_commute.proofs.Theorem.{in_order}
@@ -92,8 +92,8 @@ finished_machine r piece out = record { batches = r.batches; out = out; finished
 -- a step of the machine that finishes a piece: what is out then, with what is kept
 pub record IsStepped (r : Replay) (piece : PieceId) : Type 0 where
   pub out : PieceId → Bool
-  pub invariant : Keeps r.job (finished_machine r piece out)
-  pub order : KeepsOrder r.job (finished_machine r piece out)
+  pub invariant : KeepsJob r.job (finished_machine r piece out)
+  pub order : KeepsPrecedence r.job (finished_machine r piece out)
   pub others : (q : PieceId) → among r.out q ≡ true → is_piece piece q ≡ false → out q ≡ true
 
 module _ (job : Job) (p : Progress) (keeps : KeepsProgress job p) (at : ℕ) (id : SetId) (stage : SetStage) (set : SetAt job p keeps at id (Some stage))
@@ -168,10 +168,10 @@ module _ (job : Job) (p : Progress) (keeps : KeepsProgress job p) (at : ℕ) (id
   pub present_now : apply (world_at job m) piece (present_of r) ≡ present_of r'
   present_now = present_is r' stepped.out (adds (among r.finished) piece) _ stepped.invariant finished_alike (λ q mem. (filter_of _ (loaded_pieces r) q mem).0) out_alike
 
-  invariant_now : Keeps job (machine_of r')
+  invariant_now : KeepsJob job (machine_of r')
   invariant_now = invariant_is r' stepped.out (adds (among r.finished) piece) _ stepped.invariant finished_alike (λ q mem. (filter_of _ (loaded_pieces r) q mem).0) out_alike
 
-  order_now : KeepsOrder job (machine_of r')
+  order_now : KeepsPrecedence job (machine_of r')
   order_now = order_is r' stepped.out (adds (among r.finished) piece) _ stepped.invariant finished_alike (λ q mem. (filter_of _ (loaded_pieces r) q mem).0) out_alike stepped.order
 
   -- ---- what is kept
@@ -309,8 +309,8 @@ module _ (job : Job) (p : Progress) (keeps : KeepsProgress job p) (at : ℕ) (id
     blocks = ap (λ s. s.blocks) to.sets ∙ keeps.blocks ∙ ap (λ (x : PlanParts). x.blocks) (sym to.pieces);
     is_plan = keeps.is_plan;
     fit = keeps.fit;
-    machine = subst (λ (x : Replay). Keeps job (machine_of x)) (sym finishes) invariant_now;
-    order = subst (λ (x : Replay). KeepsOrder job (machine_of x)) (sym finishes) order_now;
+    machine = subst (λ (x : Replay). KeepsJob job (machine_of x)) (sym finishes) invariant_now;
+    order = subst (λ (x : Replay). KeepsPrecedence job (machine_of x)) (sym finishes) order_now;
     note = to.note_is ∙ ap (λ (o : Option Note). least o note) keeps.note ∙ sym given.note_is ∙ ap (λ (s : Present). s.note) present_now ∙ ap (λ (x : Replay). (present_of x).note) (sym finishes);
     next = to.next ∙ keeps.next ∙ ap (next_in_job job) (sym to.batches);
     unfinished = (let a = to.unfinished in let b = left_now in let c = keeps.unfinished in let l : left (replay_so_far job new) ≡ left r' = ap left finishes in omega (arith, a, b, c, l));

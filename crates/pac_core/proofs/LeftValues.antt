@@ -16,7 +16,7 @@ use Rattle.pac_sets.specs.SetOrder.{set_cmp}
 use Rattle.pac_sets.specs.Sets.{IsOpenSet, with_kept_at}
 use Rattle.pac_undo.specs.Undo.{Undoable}
 use Rattle.pac_commute.specs.Loads.{Job, next_in_job}
-use Rattle.pac_commute.specs.Machine.{Keeps, KeepsOrder}
+use Rattle.pac_commute.specs.Machine.{KeepsJob, KeepsPrecedence}
 use Rattle.pac_core.specs.declared.loaded.LoadedBatch.{LoadedBatch}
 use Rattle.pac_core.specs.declared.place.Place.{Place}
 use Rattle.pac_core.specs.declared.progress.Progress.{Progress}
@@ -252,8 +252,8 @@ module _ (job : Job) (p q : Progress) (place : Place) (has : HasKept p place q) 
     blocks = keeps.blocks;
     is_plan = keeps.is_plan;
     fit = keeps.fit;
-    machine = subst (λ (x : Replay). Keeps job (machine_of x)) (sym kept_same) keeps.machine;
-    order = subst (λ (x : Replay). KeepsOrder job (machine_of x)) (sym kept_same) keeps.order;
+    machine = subst (λ (x : Replay). KeepsJob job (machine_of x)) (sym kept_same) keeps.machine;
+    order = subst (λ (x : Replay). KeepsPrecedence job (machine_of x)) (sym kept_same) keeps.order;
     note = keeps.note ∙ ap (λ (x : Replay). (present_of x).note) (sym kept_same);
     next = keeps.next ∙ ap (next_in_job job) (sym has.values.batches);
     unfinished = keeps.unfinished ∙ ap left (sym kept_same);

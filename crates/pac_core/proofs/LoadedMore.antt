@@ -27,7 +27,7 @@ use Rattle.pac_sets.specs.SetOrder.{set_cmp}
 use Rattle.pac_sets.specs.Sets.{Kept, WaitsFor, WaitsForNothing, kept_of}
 use Rattle.pac_sets.proofs.SetLemmas.{kept_there, there_kept}
 use Rattle.pac_commute.specs.Loads.{Job, LoadKeeps, and_batch, begin, loaded, next_in_job, world_of}
-use Rattle.pac_commute.specs.Machine.{Keeps, KeepsOrder, Loaded as LoadedStep, Machine, access_at, among}
+use Rattle.pac_commute.specs.Machine.{KeepsJob, KeepsPrecedence, Loaded as LoadedStep, Machine, access_at, among}
 use Rattle.pac_commute.specs.PartialFits.{TxnsFitPlan}
 use Rattle.pac_commute.specs.PlanLaws.{NumbersRunOn, txns_of}
 use Rattle.pac_commute.proofs.BatchLemmas.{run_on-more, txns-more}
@@ -244,10 +244,10 @@ module _ (job : Job) (p : Progress) (keeps : KeepsProgress job p) (batch : Batch
   abbrev pub now : Present
   now = loaded (next_in_job job bs) (begin job bs').envs m.now
 
-  stepped : Keeps job (record { batches = bs'; out = m.out; finished = m.finished; now = now })
+  stepped : KeepsJob job (record { batches = bs'; out = m.out; finished = m.finished; now = now })
   stepped = steps.keeps job keeps.is_plan (LoadedStep m batch first fits) keeps.machine
 
-  ordered : KeepsOrder job (record { batches = bs'; out = m.out; finished = m.finished; now = now })
+  ordered : KeepsPrecedence job (record { batches = bs'; out = m.out; finished = m.finished; now = now })
   ordered = keeps_order job keeps.is_plan (LoadedStep m batch first fits) keeps.machine keeps.order
 
   finished_there : (q : PieceId) → Mem q r'.finished → Mem q (loaded_pieces r')
@@ -256,10 +256,10 @@ module _ (job : Job) (p : Progress) (keeps : KeepsProgress job p) (batch : Batch
   pub present_now : now ≡ present_of r'
   present_now = present_is r' m.out m.finished now stepped (λ q mem. refl) finished_there (λ q mem. steps.mem_among r.out q mem)
 
-  invariant_now : Keeps job (machine_of r')
+  invariant_now : KeepsJob job (machine_of r')
   invariant_now = invariant_is r' m.out m.finished now stepped (λ q mem. refl) finished_there (λ q mem. steps.mem_among r.out q mem)
 
-  order_now : KeepsOrder job (machine_of r')
+  order_now : KeepsPrecedence job (machine_of r')
   order_now = order_is r' m.out m.finished now stepped (λ q mem. refl) finished_there (λ q mem. steps.mem_among r.out q mem) ordered
 
   old_values : (t : ℕ) → t < next_in_job job bs → now.envs t ≡ (present_of r).envs t
@@ -452,8 +452,8 @@ module _ (job : Job) (p : Progress) (keeps : KeepsProgress job p) (batch : Batch
     blocks = ap (λ s. s.blocks) to.sets ∙ keeps.blocks ∙ ap (λ (x : PlanParts). x.blocks) (sym to.pieces);
     is_plan = keeps.is_plan;
     fit = keeps.fit;
-    machine = subst (λ (x : Replay). Keeps job (machine_of x)) (sym loads) invariant_now;
-    order = subst (λ (x : Replay). KeepsOrder job (machine_of x)) (sym loads) order_now;
+    machine = subst (λ (x : Replay). KeepsJob job (machine_of x)) (sym loads) invariant_now;
+    order = subst (λ (x : Replay). KeepsPrecedence job (machine_of x)) (sym loads) order_now;
     note = to.note_is ∙ keeps.note ∙ ap (λ (s : Present). s.note) present_now ∙ ap (λ (x : Replay). (present_of x).note) (sym loads);
     next = next_now ∙ ap (next_in_job job) (sym batches_are);
     unfinished = to.unfinished ∙ ap₂ (λ a b. a + b) keeps.unfinished (ap (λ (parts : PlanParts). sum_by (λ (set : PieceSet). length set.txns) (sets_of parts batch.first batch.txns)) (sym keeps.parts) ∙ count) ∙ sym left_now ∙ ap left (sym loads);

@@ -17,7 +17,7 @@ use Rattle.pac_tables.specs.declared.writes.Write.{Write}
 use Rattle.pac_piece.specs.declared.work.Work.{Work}
 use Rattle.pac_piece.specs.Results.{WorkDone}
 use Rattle.pac_commute.specs.Loads.{Job, begin, next_in_job, loaded, and_batch, pieces_of, world_of}
-use Rattle.pac_commute.specs.Machine.{FindsTheSame, Given, GivenBack, IsReadyAt, Keeps, Kept, Loaded, Machine, Ran, StepBy, among, drops, ends_at, world_at}
+use Rattle.pac_commute.specs.Machine.{FindsTheSame, Given, GivenBack, IsReadyAt, KeepsJob, Kept, Loaded, Machine, Ran, StepBy, among, drops, ends_at, world_at}
 use Rattle.pac_commute.specs.Machine as machine
 use Rattle.pac_commute.specs.PlanLaws.{txns_of}
 use Rattle.pac_commute.proofs.Apart.{covered_home}
@@ -141,7 +141,7 @@ module _ (r : Replay) (sound : IsSound r) where
 
     -- a step to a machine that has these out and finished is one to the replay's
     module _ (O F : PieceId → Bool) (now : Present) (outs : among out ≡ O) (ends : among finished ≡ F) (step : StepBy job (IsReadyAt job) m (record { batches = batches; out = O; finished = F; now = now })) where
-      kept : Keeps job (record { batches = batches; out = O; finished = F; now = now })
+      kept : KeepsJob job (record { batches = batches; out = O; finished = F; now = now })
       kept = steps.keeps job sound.is_plan (steps.ordered_steps job sound.is_plan m (record { batches = batches; out = O; finished = F; now = now }) step) sound.machine
 
       same_machine : machine_of r' ≡ record { batches = batches; out = O; finished = F; now = now }

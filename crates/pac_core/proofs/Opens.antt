@@ -27,7 +27,7 @@ use Rattle.pac_sets.specs.declared.set_id.SetId.{SetId}
 use Rattle.pac_sets.specs.Sets.{Kept, WaitsForNothing, kept_of, with_kept_at}
 use Rattle.pac_sets.proofs.SetLemmas.{kept_there}
 use Rattle.pac_commute.specs.Loads.{Job, begin, pieces_of}
-use Rattle.pac_commute.specs.Machine.{Keeps, KeepsOrder, Machine, access_at, among, ends_at, world_at}
+use Rattle.pac_commute.specs.Machine.{KeepsJob, KeepsPrecedence, Machine, access_at, among, ends_at, world_at}
 use Rattle.pac_commute.specs.PlanLaws.{txns_of}
 use Rattle.pac_commute.proofs.FitLemmas.{env_is}
 use Rattle.pac_commute.proofs.PlanFacts.{inputs_plan}
@@ -324,8 +324,8 @@ module _ (job : Job) (p : Progress) (keeps : KeepsProgress job p) (at : ℕ) (id
     blocks = keeps.blocks;
     is_plan = keeps.is_plan;
     fit = keeps.fit;
-    machine = subst (λ (x : Replay). Keeps job (machine_of x)) (sym same_replay) keeps.machine;
-    order = subst (λ (x : Replay). KeepsOrder job (machine_of x)) (sym same_replay) keeps.order;
+    machine = subst (λ (x : Replay). KeepsJob job (machine_of x)) (sym same_replay) keeps.machine;
+    order = subst (λ (x : Replay). KeepsPrecedence job (machine_of x)) (sym same_replay) keeps.order;
     note = keeps.note ∙ ap (λ (x : Replay). (present_of x).note) (sym same_replay);
     next = keeps.next;
     unfinished = keeps.unfinished ∙ ap left (sym same_replay);

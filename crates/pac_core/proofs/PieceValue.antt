@@ -41,7 +41,7 @@ use Rattle.pac_piece.proofs.ArgumentWork.{arguments_undefined}
 use Rattle.pac_piece.proofs.WithinLemmas.{keeps, writes_within_access}
 use Rattle.pac_piece.proofs.WriteLookups.{get-none}
 use Rattle.pac_commute.specs.Loads.{Job, begin}
-use Rattle.pac_commute.specs.Machine.{Keeps, Machine, NeedsFinished, access_at, ends_at, world_at}
+use Rattle.pac_commute.specs.Machine.{KeepsJob, Machine, NeedsFinished, access_at, ends_at, world_at}
 use Rattle.pac_commute.specs.PlanLaws.{numbers_of, txns_of}
 use Rattle.pac_commute.specs.Works.{IsWork, IsOutcome, IsPut, given_over, put_over, with_value, worked}
 use Rattle.pac_commute.proofs.Laws.{other_env, written_env}
@@ -168,7 +168,7 @@ written_same (v ∷ vs) a one other e =
 
 -- ---- the value is the piece applied
 
-module _ (job : Job) (is_plan : IsPlan job.parts) (m : Machine) (inv : Keeps job m) (p : PieceId) (needed : NeedsFinished job m p) (unfinished : m.finished p ≡ false)
+module _ (job : Job) (is_plan : IsPlan job.parts) (m : Machine) (inv : KeepsJob job m) (p : PieceId) (needed : NeedsFinished job m p) (unfinished : m.finished p ≡ false)
     (txn : Txn) (there : txn_at job.first (txns_of m.batches) p.txn ≡ Some txn) (fits : TxnFitsPlan job.parts txn)
     (env : Values) (finds : FindsInputs job.parts p.block txn (m.now.envs p.txn) env)
     (base : Tables) (alike : (a : Cell) → covers (access_at job m p) a ≡ true → get base a ≡ get m.now.tables a) where

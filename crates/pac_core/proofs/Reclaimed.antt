@@ -20,7 +20,7 @@ use Rattle.pac_sets.specs.SetOrder.{set_cmp}
 use Rattle.pac_sets.specs.Sets.{Kept, WaitsForNothing, kept_of}
 use Rattle.pac_sets.proofs.SetLemmas.{kept_there, there_kept}
 use Rattle.pac_commute.specs.Loads.{Job, pieces_of}
-use Rattle.pac_commute.specs.Machine.{Keeps, KeepsOrder, among}
+use Rattle.pac_commute.specs.Machine.{KeepsJob, KeepsPrecedence, among}
 use Rattle.pac_core.specs.declared.progress.Progress.{Progress}
 use Rattle.pac_core.specs.declared.stage.OpenSet.{OpenSet}
 use Rattle.pac_core.specs.declared.stage.SetStage.{SetStage}
@@ -132,10 +132,10 @@ module _ (job : Job) (p : Progress) (keeps : KeepsProgress job p) (orders : (j :
   finished_loaded : (q : PieceId) → Mem q r.finished → Mem q (loaded_pieces r)
   finished_loaded q mem = (filter_of (λ q. is_finished (mark_in (batches_of p) p.sets.sets q)) (loaded_pieces r) q mem).0
 
-  invariant_now : Keeps job (machine_of (with_none_out r))
+  invariant_now : KeepsJob job (machine_of (with_none_out r))
   invariant_now = invariant_is (with_none_out r) (among r.out) (among r.finished) (present_of r) keeps.machine (λ q mem. refl) finished_loaded (λ q mem. absurd mem)
 
-  order_now : KeepsOrder job (machine_of (with_none_out r))
+  order_now : KeepsPrecedence job (machine_of (with_none_out r))
   order_now = order_is (with_none_out r) (among r.out) (among r.finished) (present_of r) keeps.machine (λ q mem. refl) finished_loaded (λ q mem. absurd mem) keeps.order
 
   pub reclaimed_present : present_of r ≡ present_of (with_none_out r)
@@ -197,8 +197,8 @@ module _ (job : Job) (p : Progress) (keeps : KeepsProgress job p) (orders : (j :
     blocks = keeps.blocks;
     is_plan = keeps.is_plan;
     fit = keeps.fit;
-    machine = subst (λ (x : Replay). Keeps job (machine_of x)) (sym reclaimed_now) invariant_now;
-    order = subst (λ (x : Replay). KeepsOrder job (machine_of x)) (sym reclaimed_now) order_now;
+    machine = subst (λ (x : Replay). KeepsJob job (machine_of x)) (sym reclaimed_now) invariant_now;
+    order = subst (λ (x : Replay). KeepsPrecedence job (machine_of x)) (sym reclaimed_now) order_now;
     note = keeps.note ∙ ap (λ (s : Present). s.note) reclaimed_present ∙ ap (λ (x : Replay). (present_of x).note) (sym reclaimed_now);
     next = keeps.next;
     unfinished = keeps.unfinished ∙ ap left (sym reclaimed_now);

@@ -17,7 +17,7 @@ use Rattle.pac_tables.specs.Written.{written}
 use Rattle.pac_piece.specs.Frames.{AreAmong}
 use Rattle.pac_piece.specs.Runnable.{IsRunnableOn, IsRunnableOver}
 use Rattle.pac_commute.specs.Loads.{Job}
-use Rattle.pac_commute.specs.Machine.{Keeps, Machine, NeedsFinished, ends_at, world_at}
+use Rattle.pac_commute.specs.Machine.{KeepsJob, Machine, NeedsFinished, ends_at, world_at}
 use Rattle.pac_commute.specs.PlanLaws.{txns_of}
 use Rattle.pac_commute.proofs.FitLemmas.{env_is}
 use Rattle.pac_commute.proofs.MachineFit.{machine_fits}
@@ -26,7 +26,7 @@ use Rattle.pac_core.specs.Cells.{copies_at}
 use Rattle.pac_core.specs.Inputs.{FindsInputs, is_found}
 use Rattle.pac_core.proofs.Copies.{copied_or}
 
-module _ (job : Job) (is : IsPlan job.parts) (rows_fit : RowsFit job.parts.tables job.tables) (m : Machine) (inv : Keeps job m) (p : PieceId) (needed : NeedsFinished job m p)
+module _ (job : Job) (is : IsPlan job.parts) (rows_fit : RowsFit job.parts.tables job.tables) (m : Machine) (inv : KeepsJob job m) (p : PieceId) (needed : NeedsFinished job m p)
     (txn : Txn) (there : txn_at job.first (txns_of m.batches) p.txn ≡ Some txn) (fits : TxnFitsPlan job.parts txn) (env : Values) (finds : FindsInputs job.parts p.block txn (m.now.envs p.txn) env) where
   good : HasInputs (world_at job m) (ends_at job m) p m.now
   good = have_inputs job is m inv p needed

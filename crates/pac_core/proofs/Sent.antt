@@ -23,13 +23,13 @@ use Rattle.pac_plan.specs.contracts.plan.Plan as plan_type
 use Rattle.pac_keys.specs.contracts.piece_code.PieceCode as piece_code_type
 use Rattle.pac_keys.specs.contracts.plan_code.PlanCode as plan_code_type
 use Rattle.pac_keys.specs.contracts.probe.Probe as probe_type
-use Rattle.pac_interface.proofs.interface.Interface.TheSendSync as interface
+use Rattle.pac_keys.specs.contracts.plan_ops.PlanOps as plan_ops_type
+use Rattle.pac_keys.proofs.interface.Interface.TheSendSync as interface
 use Rattle.pac_tables.specs.declared.rows.Rows.{Ghosts}
 use Rattle.pac_sets.proofs.sets.Sets.TheSendSync as sets
 use Rattle.pac_undo.proofs.undo_rows.UndoRows.TheSendSync as undo
 use Rattle.pac_core.proofs.loaded.LoadedBatch.TheSendSync as loaded
 use Rattle.pac_core.proofs.stage.SetStage.TheSendSync as stage
-use Rattle.pac_core.specs.contracts.plan_pieces.PlanPieces as plan_pieces_type
 use Rattle.pac_core.specs.contracts.progress.Progress as progress_type
 use Rattle.pac_core.specs.contracts.replay.Core as core_type
 use Rattle.pac_tables.proofs.writes.Write.TheSendSync as write
@@ -74,26 +74,47 @@ done_send = search (sendable, crosses, ruled.the_send, work_field_send, write.th
 program_send : IsSend program_type.the_field.row
 program_send = search (sendable, crosses, op_send) depth 40
 
+program_sync : IsSync program_type.the_field.row
+program_sync = search (sendable, crosses, op_sync) depth 40
+
 parts_send : IsSend parts_type.the_field.row
 parts_send = search (sendable, crosses, program_send, types.the_field_send) depth 40
+
+parts_sync : IsSync parts_type.the_field.row
+parts_sync = search (sendable, crosses, program_sync, types.the_field_sync) depth 40
 
 plan_send : IsSend plan_type.the_row
 plan_send = search (sendable, crosses, parts_send) depth 40
 
+plan_sync : IsSync plan_type.the_row
+plan_sync = search (sendable, crosses, parts_sync) depth 40
+
 probe_send : IsSend probe_type.the_field.row
 probe_send = search (sendable, crosses, short.the_send, expr_send) depth 40
+
+probe_sync : IsSync probe_type.the_field.row
+probe_sync = search (sendable, crosses, short.the_sync, expr_sync) depth 40
 
 piece_code_send : IsSend piece_code_type.the_field.row
 piece_code_send = search (sendable, crosses, shared.the_send, code_send, code_sync, probe_send) depth 40
 
-plan_code_send : IsSend plan_code_type.the_row
-plan_code_send = search (sendable, crosses, plan_send, piece_code_send) depth 40
+piece_code_sync : IsSync piece_code_type.the_field.row
+piece_code_sync = search (sendable, crosses, shared.the_sync, code_send, code_sync, probe_sync) depth 40
 
-plan_pieces_send : IsSend plan_pieces_type.the_row
-plan_pieces_send = search (sendable, crosses, plan_code_send, interface.the_field_send) depth 40
+plan_ops_send : IsSend plan_ops_type.the_row
+plan_ops_send = search (sendable, crosses, plan_send, piece_code_send) depth 40
+
+plan_ops_sync : IsSync plan_ops_type.the_row
+plan_ops_sync = search (sendable, crosses, plan_sync, piece_code_sync) depth 40
+
+plan_code_send : IsSend plan_code_type.the_row
+plan_code_send = search (sendable, crosses, plan_ops_send, interface.the_field_send) depth 40
+
+plan_code_sync : IsSync plan_code_type.the_row
+plan_code_sync = search (sendable, crosses, plan_ops_sync, interface.the_field_sync) depth 40
 
 progress_send : IsSend progress_type.the_field.row
-progress_send = search (sendable, crosses, plan_pieces_send, loaded.the_field_send, sets.the_send, stage.the_field_send, note.the_field_send) depth 40
+progress_send = search (sendable, crosses, shared.the_send, plan_code_send, plan_code_sync, loaded.the_field_send, sets.the_send, stage.the_field_send, note.the_field_send) depth 40
 
 module _ (R : RattleType) (rows : Ghosts R.Denot) where
   pub core_send : IsSend R → IsSend (core_type.the_row R rows)

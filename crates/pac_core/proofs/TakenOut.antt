@@ -17,7 +17,7 @@ use Rattle.pac_sched.proofs.StateLemmas.{get_same}
 use Rattle.pac_sets.specs.declared.set_id.SetId.{SetId}
 use Rattle.pac_sets.specs.Sets.{Kept, with_kept_at}
 use Rattle.pac_commute.specs.Loads.{Job}
-use Rattle.pac_commute.specs.Machine.{Given, IsReadyAt, Keeps, KeepsOrder, Machine, access_at, among}
+use Rattle.pac_commute.specs.Machine.{Given, IsReadyAt, KeepsJob, KeepsPrecedence, Machine, access_at, among}
 use Rattle.pac_commute.proofs.OrderedSteps.{keeps_order}
 use Rattle.pac_commute.proofs.Steps as steps
 use Rattle.pac_core.specs.declared.progress.Progress.{Progress}
@@ -88,19 +88,19 @@ module _ (job : Job) (p : Progress) (keeps : KeepsProgress job p) (at : ℕ) (id
   abbrev pub m : Machine
   m = machine_of r
 
-  stepped : Keeps job (record m { out = adds m.out piece })
+  stepped : KeepsJob job (record m { out = adds m.out piece })
   stepped = steps.keeps job keeps.is_plan (Given m piece (steps.may_be_taken job keeps.is_plan m piece ready) keys) keeps.machine
 
-  ordered : KeepsOrder job (record m { out = adds m.out piece })
+  ordered : KeepsPrecedence job (record m { out = adds m.out piece })
   ordered = keeps_order job keeps.is_plan (Given m piece ready keys) keeps.machine keeps.order
 
   out_among : (q : PieceId) → Mem q (with_out r piece).out → adds m.out piece q ≡ true
   out_among q mem = (filter_of (adds (among r.out) piece) (loaded_pieces r) q mem).1
 
-  invariant_now : Keeps job (machine_of (with_out r piece))
+  invariant_now : KeepsJob job (machine_of (with_out r piece))
   invariant_now = invariant_is (with_out r piece) (adds m.out piece) m.finished m.now stepped (λ q mem. refl) (λ q mem. (filter_of _ (loaded_pieces r) q mem).0) out_among
 
-  order_now : KeepsOrder job (machine_of (with_out r piece))
+  order_now : KeepsPrecedence job (machine_of (with_out r piece))
   order_now = order_is (with_out r piece) (adds m.out piece) m.finished m.now stepped (λ q mem. refl) (λ q mem. (filter_of _ (loaded_pieces r) q mem).0) out_among ordered
 
   pub present_now : m.now ≡ present_of (with_out r piece)
@@ -176,8 +176,8 @@ module _ (job : Job) (p : Progress) (keeps : KeepsProgress job p) (at : ℕ) (id
     blocks = keeps.blocks;
     is_plan = keeps.is_plan;
     fit = keeps.fit;
-    machine = subst (λ (x : Replay). Keeps job (machine_of x)) (sym out_now) invariant_now;
-    order = subst (λ (x : Replay). KeepsOrder job (machine_of x)) (sym out_now) order_now;
+    machine = subst (λ (x : Replay). KeepsJob job (machine_of x)) (sym out_now) invariant_now;
+    order = subst (λ (x : Replay). KeepsPrecedence job (machine_of x)) (sym out_now) order_now;
     note = keeps.note ∙ ap (λ (s : Present). s.note) present_now ∙ ap (λ (x : Replay). (present_of x).note) (sym out_now);
     next = keeps.next;
     unfinished = keeps.unfinished ∙ ap left (sym out_now);

@@ -98,7 +98,8 @@ pub record IsDrained (old new : Replay) : Type 0 where
 abbrev pub touches_loaded : Replay → ℕ
 touches_loaded r = sum_by (λ p. touches_in (access_now r p)) (loaded_pieces r)
 
--- the tables and the note of a replay that is done are those of executing its transactions one after another
+-- The tables and the note of a replay that is done are those that the flat form of its transactions leaves, one after another. An
+-- abort is noted, and the others go on; where none is noted, the tables are those of executing the transactions.
 pub record IsReplayOutcome (r : Replay) (tables : Tables) (note : Option Note) : Type 0 where
   pub tables_are : tables ≡ (replayed r.job.parts.programs r.job.first (txns_of r.batches) r.job.tables).tables
   pub note_is : note ≡ first_note (replayed r.job.parts.programs r.job.first (txns_of r.batches) r.job.tables).notes

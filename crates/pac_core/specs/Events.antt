@@ -7,7 +7,7 @@ use Rattle.pac_plan.specs.Analysis.{IsPlan}
 use Rattle.pac_piece.specs.declared.work.Work.{Work}
 use Rattle.pac_piece.specs.Results.{WorkDone}
 use Rattle.pac_piece.specs.Values.{begun}
-use Rattle.pac_commute.specs.Machine.{IsReadyAt, Keeps, KeepsOrder, StepBy, among, ends_at, world_at}
+use Rattle.pac_commute.specs.Machine.{IsReadyAt, KeepsJob, KeepsPrecedence, StepBy, among, ends_at, world_at}
 use Rattle.pac_commute.specs.Works.{IsWork}
 use Rattle.pac_core.specs.declared.answers.Take.{Take}
 use Rattle.pac_core.specs.declared.answers.Take.TheVariants.{Given}
@@ -21,8 +21,8 @@ use Rattle.pac_core.specs.Replay.{Replay, closed, machine_of, present_of, with_b
 pub record IsSound (r : Replay) : Type 0 where
   pub is_plan : IsPlan r.job.parts
   pub fit : RowsFit r.job.parts.tables r.job.tables
-  pub machine : Keeps r.job (machine_of r)
-  pub order : KeepsOrder r.job (machine_of r)
+  pub machine : KeepsJob r.job (machine_of r)
+  pub order : KeepsPrecedence r.job (machine_of r)
 
 -- own work is work in the sense of the laws of pieces: it has the rows of its access, its inputs, and no values of what it defines
 abbrev pub OwnIsWork : Replay → Type 0

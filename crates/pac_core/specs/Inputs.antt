@@ -6,7 +6,7 @@ use Rattle.pac_ops.specs.declared.transaction.Txn.{Txn}
 use Rattle.pac_ops.specs.declared.transaction.Txn.TheVariants.{Call as ACall, AdHoc}
 use Rattle.pac_plan.specs.declared.parts.PlanParts.{PlanParts}
 use Rattle.pac_plan.specs.Codes.{piece_ops}
-use Rattle.pac_interface.specs.Interfaces.{is_input, is_output}
+use Rattle.pac_keys.specs.Interfaces.{is_input, is_output}
 use Rattle.pac_commute.specs.Works.{given_over}
 
 -- a variable is an input of a transaction's piece in a block

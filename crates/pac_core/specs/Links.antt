@@ -24,7 +24,7 @@ use Rattle.pac_sets.specs.SetOrder.{set_cmp}
 use Rattle.pac_sets.specs.Sets.{Kept, WaitsForNothing, kept_of}
 use Rattle.pac_undo.specs.Undo.{Undoable}
 use Rattle.pac_commute.specs.Loads.{Job, pieces_of, next_in_job}
-use Rattle.pac_commute.specs.Machine.{IsReadyAt, Keeps, KeepsOrder, access_at}
+use Rattle.pac_commute.specs.Machine.{IsReadyAt, KeepsJob, KeepsPrecedence, access_at}
 use Rattle.pac_core.specs.declared.loaded.LoadedBatch.{LoadedBatch}
 use Rattle.pac_core.specs.declared.stage.OpenSet.{OpenSet}
 use Rattle.pac_core.specs.declared.stage.SetStage.{SetStage}
@@ -140,8 +140,8 @@ pub record KeepsProgress (job : Job) (p : Progress) : Type 0 where
   pub blocks : p.sets.blocks ≡ p.pieces.blocks
   pub is_plan : IsPlan job.parts
   pub fit : RowsFit job.parts.tables job.tables
-  pub machine : Keeps job (machine_of (replay_so_far job p))
-  pub order : KeepsOrder job (machine_of (replay_so_far job p))
+  pub machine : KeepsJob job (machine_of (replay_so_far job p))
+  pub order : KeepsPrecedence job (machine_of (replay_so_far job p))
   pub note : p.note ≡ (present_of (replay_so_far job p)).note
   pub next : p.next ≡ next_in_job job (batches_of p)
   pub unfinished : p.unfinished ≡ left (replay_so_far job p)

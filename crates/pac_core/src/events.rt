@@ -17,13 +17,15 @@ use crate::answers::{Finish, Take};
 use crate::cells::PieceCells;
 use crate::loaded::LoadedBatch;
 use crate::moves::keep_given;
+use crate::passing::{code_of, find, interface_of};
 use crate::place::Place;
-use crate::plan_pieces::PlanPieces;
 use crate::progress::Progress;
 use crate::work::{is_work_of, work_of};
 use pac_base::NoMemory;
+use pac_keys::PlanCode;
 use pac_ops::PieceId;
 use pac_piece::{Done, PieceOutcome, Work, is_value, run_on};
+use pac_plan::Shared;
 use pac_tables::{Rows, Writes};
 use pac_undo::UndoRows;
 use pac_value::Env;
@@ -271,9 +273,9 @@ fn outcome_of<R: Rows>(
     let alloc = progress.alloc;
     let txn = progress.txn_at(place, piece);
     let kept = progress.values_at(place, piece);
-    let code = progress.pieces.code_of(alloc, txn, piece.block)?;
+    let code = code_of(alloc, &progress.pieces, txn, piece.block)?;
     let mut env = mem::replace(room, Env::new(alloc));
-    progress.pieces.find(&mut env, txn, piece.block, kept)?;
+    find(&progress.pieces, &mut env, txn, piece.block, kept)?;
     run_on(alloc, piece, code.get(), env, rows.rows())
 }
 
@@ -310,7 +312,7 @@ fn leave<R: Rows>(
 // The same, of the piece that the transaction at a place has in a block.
 fn keep_left<R: Rows>(
     batches: &mut Vec<LoadedBatch>,
-    pieces: &PlanPieces,
+    pieces: &Shared<PlanCode>,
     place: Place,
     block: u16,
     outs: &Env,
@@ -329,7 +331,7 @@ fn keep_left<R: Rows>(
     ensures writes { IfErr result (λ refused. refused.0 ≡ writes) }
 {
     let txn = &batches[place.batch].batch.txns.items()[place.index];
-    match pieces.interface_of(txn, block) {
+    match interface_of(pieces, txn, block) {
         Some(interface) => {
             let vars = interface.outputs.as_slice();
             keep_given(batches, place, vars, outs, rows, writes)

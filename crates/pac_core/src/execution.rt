@@ -10,13 +10,15 @@ ghost use Rattle.pac_commute.specs.PlanLaws.{NumbersRunOn, txns_of};
 ghost use Rattle.pac_core.specs.Calls.{IsReplayDone, IsReplayOutcome, with_batches};
 ghost use Rattle.pac_core.specs.Replay.{closed, opening_replay};
 ghost use Rattle.pac_core.specs.FedExecution.{IsExecutedFeed};
+ghost use Rattle.pac_workers.specs.Fed.{HasGiven};
 
 use crate::answers::Outcome;
 use crate::replay::Core;
 use pac_base::{Listed, NoMemory};
+use pac_keys::PlanCode;
 use pac_ops::{Batches, Note};
 use pac_outside::Gate;
-use pac_plan::Plan;
+use pac_plan::{Plan, Shared};
 use pac_tables::Rows;
 use pac_workers::{Feed, Replayed, replay, replay_feed};
 use std::alloc::Global;
@@ -71,6 +73,7 @@ pub fn execute<R: Rows + Send, G: Gate + Sync, H: Threads + Wait + Sync>(
 
 /// Executes over tables what a feed gives, by `workers` workers, while the caller's thread loads it. What is left is what
 /// executing the transactions of its batches one after another leaves. Workers pass the gate as in [`replay`](pac_workers::replay).
+/// Executions of parts of one log share the plan's code.
 ///
 /// # Errors
 ///
@@ -79,7 +82,7 @@ pub fn execute_feed<R: Rows + Send, F: Feed, G: Gate + Sync, H: Threads + Wait +
     rt: &H,
     alloc: Global,
     workers: u32,
-    plan: Plan,
+    plan: Shared<PlanCode>,
     first: u64,
     tables: R,
     feed: &mut F,
@@ -90,16 +93,16 @@ pub fn execute_feed<R: Rows + Send, F: Feed, G: Gate + Sync, H: Threads + Wait +
     requires fit { RowsFit plan.tables (R.held tables) }
     requires next { F.next_txn feed.old ≡ first }
     requires types { (F.params feed.old ≡ map (λ program. program.params) plan.programs) × (F.tables feed.old ≡ plan.tables) }
-    ensures given { (batches : List ABatch) × F.gives feed.old batches feed.new }
+    ensures given { (batches : List ABatch) × HasGiven F.so_far F.gives feed.old batches feed.new }
     ensures tables { IfOk result (λ e. R.tables e.tables ≡ length plan.tables) }
     ensures fit { IfOk result (λ e. RowsFit plan.tables (R.held e.tables)) }
-    ensures executed { IfOk result (λ e. IsExecutedFeed F.gives (record { parts = plan; first = first; tables = R.held tables }) feed.old feed.new (R.held e.tables) e.first_note (sum e.tallies + e.drained)) }
+    ensures executed { IfOk result (λ e. IsExecutedFeed (HasGiven F.so_far F.gives) (record { parts = plan; first = first; tables = R.held tables }) feed.old feed.new (R.held e.tables) e.first_note (sum e.tallies + e.drained)) }
     ensures tallies { IfOk result (λ e. length e.tallies ≡ workers) }
     ensures over { OnOk result (F.is_over feed.new ≡ true) }
     ensures same_types { (F.params feed.new ≡ F.params feed.old) × (F.tables feed.new ≡ F.tables feed.old) }
 {
     feed.gives_none();
-    let core = Core::new(alloc, plan, first, tables)?;
+    let core = Core::with_code(alloc, plan, first, tables)?;
     let replayed = replay_feed(rt, alloc, workers, core, feed, gate)?;
     Ok(into_executed(replayed))
 }

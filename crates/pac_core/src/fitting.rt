@@ -19,6 +19,6 @@ impl Progress {
         if batch.first.checked_add(txns.len() as u64).is_none() {
             return false;
         }
-        self.pieces.code().plan().fits_all(txns)
+        self.pieces.get().plan().fits_all(txns)
     }
 }

@@ -12,7 +12,7 @@
 //!   no piece of a set was handed out, its pieces come in their order, and nothing is computed of what each may touch.
 //!   [`Core::drain`] runs all that is left so, and [`Core::outcome`] gives the tables, and the first transaction that aborted.
 //! - [`Core::load_all`] loads batches one after another. [`Core::ready`] is an estimate of what a take may find ready, and
-//!   [`weight_of`] of what a piece costs; neither has a clause. [`Core::keeps_invariant`] says what holds at every moment.
+//!   no clause says so. [`Core::keeps_invariant`] says what holds at every moment.
 //! - [`Core::next_txn`], [`Core::is_closed`], [`Core::is_finished`], [`Core::unfinished`] and [`Core::pairs`] say how far it
 //!   is. [`Core::job`] copies what tells its job, and [`Core::from_job`] begins that anew.
 //! - [`execute`] executes batches of transactions over tables by a number of workers: a core is a machine of `pac_workers`.
@@ -38,7 +38,8 @@
 //! A contract sees a core as a `Replay` (`specs/Replay.antt`): its job, the loaded batches, and which of their pieces are
 //! out and which are finished. `specs/Calls.antt` says what each call answers and makes of it. The tables and values of now
 //! are those of the finished pieces, applied in the order of transactions, by the laws of `pac_commute`; so the outcome is
-//! that of executing the transactions one after another.
+//! that of the transactions in their flat form, one after another. Where no transaction aborted, that is what executing them
+//! leaves.
 #![tactic(auto)]
 
 mod alone;
@@ -54,8 +55,8 @@ mod loading;
 mod machine;
 mod moves;
 mod opening;
+mod passing;
 mod place;
-mod plan_pieces;
 mod progress;
 mod reclaiming;
 mod replay;
@@ -68,4 +69,3 @@ pub use answers::{Finish, Outcome, ReadyPieces, Take};
 pub use execution::{Executed, execute, execute_feed};
 pub use job::Job;
 pub use replay::Core;
-pub use weighing::weight_of;

@@ -15,9 +15,9 @@ use crate::kept_values::KeptValues;
 use crate::loaded::LoadedBatch;
 use crate::progress::Progress;
 use crate::stage::{Remaining, SetStage};
-use crate::weighing::have_weight;
 use pac_base::{Exact, NoMemory};
 use pac_batch::{PieceSet, sets};
+use pac_keys::have_weight;
 use pac_ops::{Batch, Txn};
 use pac_sets::{Kept, SetId};
 use pac_value::Value;
@@ -80,7 +80,7 @@ impl Progress {
         ensures { IfOk result (AreAdded self.now batch.now) }
     {
         let alloc = self.alloc;
-        let sets = sets(alloc, self.pieces.code(), batch)?;
+        let sets = sets(alloc, self.pieces.get(), batch)?;
         let Some(pieces) = count(&sets) else {
             return Err(NoMemory);
         };

@@ -7,8 +7,8 @@ ghost use Rattle.pac_core.specs.Takes.{IsNextPiece};
 
 use crate::answers::{Finish, ReadyPieces, Take};
 use crate::replay::Core;
-use crate::weighing::weight_of;
 use pac_base::NoMemory;
+use pac_keys::weight_of;
 use pac_ops::{Batch, PieceId};
 use pac_piece::{Done, Work, run};
 use pac_tables::Rows;

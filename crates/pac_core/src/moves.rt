@@ -134,7 +134,7 @@ impl Progress {
         requires ascend { T (is_sorted set_cmp self.now.sets.sets) }
         ensures { IsTrue result ↔ IsUnfinishedBatch self.now.sets.sets batch }
     {
-        for block in 0..self.pieces.code().plan().blocks() {
+        for block in 0..self.pieces.get().plan().blocks() {
             if self.is_unfinished(SetId {
                 batch: batch as u64,
                 block,

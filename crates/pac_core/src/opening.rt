@@ -12,12 +12,13 @@ ghost use Rattle.pac_core.specs.Moves.{HasAllInputs, IsFreshlyOpen, access_over}
 
 use crate::cells::{PieceCells, cells_of};
 use crate::loaded::LoadedBatch;
-use crate::plan_pieces::PlanPieces;
+use crate::passing::find;
 use crate::stage::OpenSet;
 use pac_base::NoMemory;
 use pac_batch::queue_preds;
+use pac_keys::PlanCode;
 use pac_ops::PieceId;
-use pac_plan::Access;
+use pac_plan::{Access, Shared};
 use pac_sched::Sched;
 use pac_value::Env;
 use std::alloc::Global;
@@ -30,7 +31,7 @@ use std::alloc::Global;
 /// [`NoMemory`] where what is kept of them finds no room.
 pub(crate) fn open_set(
     alloc: Global,
-    plan: &PlanPieces,
+    plan: &Shared<PlanCode>,
     loaded: &LoadedBatch,
     block: u16,
     txns: &[u64],
@@ -61,7 +62,7 @@ pub(crate) fn open_set(
 // The access of a transaction's piece in a block. It puts what the piece finds in place of what an environment had.
 fn access_of(
     alloc: Global,
-    plan: &PlanPieces,
+    plan: &Shared<PlanCode>,
     loaded: &LoadedBatch,
     block: u16,
     txn: u64,
@@ -76,6 +77,6 @@ fn access_of(
 {
     let i = (txn - loaded.batch.first) as usize;
     let txn = &loaded.batch.txns.items()[i];
-    plan.find(env, txn, block, &loaded.kept[i])?;
-    plan.code().access(alloc, txn, block, env)
+    find(plan, env, txn, block, &loaded.kept[i])?;
+    plan.get().access(alloc, txn, block, env)
 }

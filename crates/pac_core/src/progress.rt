@@ -7,11 +7,11 @@ ghost use Rattle.pac_core.specs.Moves.{HasNoneReady, IsNextAt, IsOpeningProgress
 
 use crate::loaded::LoadedBatch;
 use crate::opening::open_set;
-use crate::plan_pieces::PlanPieces;
 use crate::stage::{OpenSet, SetStage};
 use pac_base::NoMemory;
+use pac_keys::PlanCode;
 use pac_ops::{Note, PieceId};
-use pac_plan::Plan;
+use pac_plan::Shared;
 use pac_sched::Pick;
 use pac_sets::Sets;
 use std::alloc::Global;
@@ -20,7 +20,8 @@ use std::alloc::Global;
 #[derive(Drop)]
 pub(crate) struct Progress {
     pub alloc: Global,
-    pub pieces: PlanPieces,
+    /// The plan, with the code of its pieces.
+    pub pieces: Shared<PlanCode>,
     /// Batches in the order in which they were loaded.
     pub batches: Vec<LoadedBatch>,
     /// Their sets.
@@ -46,12 +47,11 @@ impl Progress {
     /// # Errors
     ///
     /// [`NoMemory`] where that finds no room.
-    pub fn new(alloc: Global, plan: Plan, first: u64) -> Result<Progress, NoMemory>
-        ensures { IfOk result (IsOpeningProgress plan first) }
+    pub fn new(alloc: Global, pieces: Shared<PlanCode>, first: u64) -> Result<Progress, NoMemory>
+        ensures { IfOk result (IsOpeningProgress pieces first) }
     {
-        let pieces = PlanPieces::new(alloc, plan)?;
-        let sets = Sets::new(alloc, pieces.code().plan())?;
-        let has_weight = pieces.has_weight;
+        let sets = Sets::new(alloc, pieces.get().plan())?;
+        let has_weight = pieces.get().has_weight();
         Ok(Progress {
             alloc,
             pieces,

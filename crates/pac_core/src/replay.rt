@@ -12,9 +12,10 @@ use crate::events::{coming, give_back, hand_in, run_next, take_next};
 use crate::job::{Job, are_batches, are_same_plans, batch_copies, in_turn};
 use crate::progress::Progress;
 use pac_base::{Exact, NoMemory, listed};
+use pac_keys::PlanCode;
 use pac_ops::{Batch, Batches, PieceId};
 use pac_piece::{Done, Work};
-use pac_plan::{Plan, is_plan};
+use pac_plan::{Plan, Shared, is_plan};
 use pac_tables::Rows;
 use pac_undo::UndoRows;
 use pac_value::Env;
@@ -55,7 +56,26 @@ impl<R: Rows> Core<R> {
         requires fit { RowsFit plan.tables (R.held tables) }
         ensures { IfOk result (λ core. core ≡ opening_replay (record { parts = plan; first = first; tables = R.held tables })) }
     {
-        is_plan(&plan);
+        let plan = Shared::new(alloc, PlanCode::new(alloc, plan)?)?;
+        Core::with_code(alloc, plan, first, tables)
+    }
+
+    /// The same, of a plan whose code is made already, and which other cores may share.
+    ///
+    /// # Errors
+    ///
+    /// [`NoMemory`] as [`Core::new`].
+    pub fn with_code(
+        alloc: Global,
+        plan: Shared<PlanCode>,
+        first: u64,
+        tables: R,
+    ) -> Result<Core<R>, NoMemory>
+        requires tables { R.tables tables ≡ length plan.tables }
+        requires fit { RowsFit plan.tables (R.held tables) }
+        ensures { IfOk result (λ core. core ≡ opening_replay (record { parts = plan; first = first; tables = R.held tables })) }
+    {
+        is_plan(plan.get().plan());
         let progress = Progress::new(alloc, plan, first)?;
         let rows = UndoRows::new(alloc, tables);
         Ok(Core {
@@ -283,7 +303,7 @@ impl<R: Rows> Core<R> {
         ensures { IfOk result (λ job. IsJobOf self.now job.plan job.first (R.tables job.opening) (R.held job.opening) job.batches) }
     {
         let alloc = self.progress.alloc;
-        let plan = self.progress.pieces.code().plan().copy(alloc)?;
+        let plan = self.progress.pieces.get().plan().copy(alloc)?;
         let opening = self.rows.opening()?;
         let batches = listed(batch_copies(alloc, &self.progress.batches)?);
         Ok(Job {
@@ -302,7 +322,7 @@ impl<R: Rows> Core<R> {
     pub fn is_of(&self, job: &Job<R>) -> Result<bool, NoMemory>
         ensures { IfOk result (λ is. IsTrue is ↔ IsOfJob self.now job.now.plan job.now.first (R.tables job.now.opening) (R.held job.now.opening) job.now.batches) }
     {
-        if !are_same_plans(self.progress.pieces.code().plan(), &job.plan) {
+        if !are_same_plans(self.progress.pieces.get().plan(), &job.plan) {
             return Ok(false);
         }
         if self.progress.first != job.first {

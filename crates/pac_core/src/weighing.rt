@@ -1,52 +1,11 @@
-// What pieces weigh, and how many of them a take may find ready.
+// About how many pieces a take may find ready, and what they weigh.
 ghost use Rattle.std.specs.Prelude.{◌<◌, length};
 
 use crate::answers::ReadyPieces;
-use crate::plan_pieces::PlanPieces;
 use crate::progress::Progress;
 use crate::stage::SetStage;
-use pac_keys::PlanCode;
-use pac_ops::Txn;
-use pac_plan::Code;
 use pac_sched::Pick;
 use pac_sets::SetId;
-
-// How many operations cost about as much as handing a piece out.
-const HANDING_OUT: usize = 8;
-
-/// What code weighs: how many operations or records it has beyond those that cost as much as handing it out. An estimate,
-/// with no clause: nothing may rest on it.
-pub fn weight_of(code: &Code) -> u64 {
-    let len = match code {
-        Code::Ops(ops) => ops.len(),
-        Code::Records(records) => records.len(),
-    };
-    len.saturating_sub(HANDING_OUT) as u64
-}
-
-/// Whether a piece of some procedure weighs anything.
-pub(crate) fn has_weight(code: &PlanCode) -> bool {
-    for proc in 0..code.plan().procs() {
-        for block in 0..code.plan().blocks() {
-            if weight_of(code.code(proc, block).get()) > 0 {
-                return true;
-            }
-        }
-    }
-    false
-}
-
-/// Whether the records of some transaction weigh anything.
-pub(crate) fn have_weight(txns: &[Txn]) -> bool {
-    for txn in txns {
-        if let Txn::AdHoc { records } = txn {
-            if records.items().len() > HANDING_OUT {
-                return true;
-            }
-        }
-    }
-    false
-}
 
 impl Progress {
     /// About how many pieces a take may find ready, in the sets that are opened and in those that a take may open, and what
@@ -97,7 +56,7 @@ impl Progress {
         };
         let index = txn.saturating_sub(loaded.batch.first) as usize;
         match loaded.batch.txns.items().get(index) {
-            Some(txn) => self.pieces.weight(txn, set.block),
+            Some(txn) => self.pieces.get().weight(txn, set.block),
             None => 0,
         }
     }
@@ -111,22 +70,5 @@ fn first_ready(stage: &SetStage) -> (u64, Option<u64>) {
             Pick::Piece(piece) => (open.sched.ready() as u64, Some(piece.txn)),
             Pick::NotReady | Pick::Done => (0, None),
         },
-    }
-}
-
-impl PlanPieces {
-    // About what the piece of a transaction in a block weighs. All of its records count, where it has no code.
-    fn weight(&self, txn: &Txn, block: u16) -> u64 {
-        match txn {
-            Txn::Call(call) => {
-                let plan = self.code().plan();
-                if call.proc < plan.procs() && block < plan.blocks() {
-                    weight_of(self.code().code(call.proc, block).get())
-                } else {
-                    0
-                }
-            }
-            Txn::AdHoc { records } => records.items().len().saturating_sub(HANDING_OUT) as u64,
-        }
     }
 }

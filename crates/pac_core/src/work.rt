@@ -6,10 +6,12 @@ ghost use Rattle.pac_core.specs.Takes.{IsWorkOver};
 
 use crate::cells::{are_copies, copies};
 use crate::kept_values::KeptValues;
-use crate::plan_pieces::PlanPieces;
+use crate::passing::{code_of, finds, found, is_code_of};
 use pac_base::{NoMemory, listed};
+use pac_keys::PlanCode;
 use pac_ops::{PieceId, Txn};
 use pac_piece::Work;
+use pac_plan::Shared;
 use pac_tables::Rows;
 use pac_value::Key;
 use std::alloc::Global;
@@ -21,7 +23,7 @@ use std::alloc::Global;
 /// [`NoMemory`] where it finds no room.
 pub(crate) fn work_of<R: Rows>(
     alloc: Global,
-    plan: &PlanPieces,
+    plan: &Shared<PlanCode>,
     piece: PieceId,
     txn: &Txn,
     kept: &KeptValues,
@@ -34,8 +36,8 @@ pub(crate) fn work_of<R: Rows>(
     ensures { IfOk result (IsWorkOver plan.now piece txn.now kept.now cells.now (R.held rows.now)) }
 {
     let block = piece.block;
-    let code = plan.code_of(alloc, txn, block)?;
-    let env = plan.found(alloc, txn, block, kept)?;
+    let code = code_of(alloc, plan, txn, block)?;
+    let env = found(alloc, plan, txn, block, kept)?;
     let rows = listed(copies(alloc, cells, rows)?);
     Ok(Work {
         piece,
@@ -47,7 +49,7 @@ pub(crate) fn work_of<R: Rows>(
 
 /// Whether work is that of the piece. Takes no memory. What costs least is compared first.
 pub(crate) fn is_work_of<R: Rows>(
-    plan: &PlanPieces,
+    plan: &Shared<PlanCode>,
     piece: PieceId,
     txn: &Txn,
     kept: &KeptValues,
@@ -62,7 +64,7 @@ pub(crate) fn is_work_of<R: Rows>(
 {
     let block = piece.block;
     work.piece == piece
-        && plan.finds(txn, block, kept, &work.env)
+        && finds(plan, txn, block, kept, &work.env)
         && are_copies(cells, rows, work.rows.as_slice())
-        && plan.is_code_of(txn, block, work.code.get())
+        && is_code_of(plan, txn, block, work.code.get())
 }

@@ -64,11 +64,7 @@ pub fn changed_cell_at(
 }
 
 #[tactic(auto, unfolding(crate::specs::EntryReading::next_cell))]
-fn cell_at(
-    tables: &[Table],
-    bytes: &[u8],
-    at: usize,
-) -> Result<((u16, Key), usize), EntryFault>
+fn cell_at(tables: &[Table], bytes: &[u8], at: usize) -> Result<((u16, Key), usize), EntryFault>
     ensures { Answers bytes.now result (next_cell tables.now (from bytes.now at)) }
 {
     let (tag, after) = byte_at(bytes, at)?;
@@ -83,11 +79,7 @@ fn cell_at(
 
 // The table and the key of a record after its tag.
 #[tactic(auto, unfolding(crate::specs::EntryReading::next_place))]
-fn place_at(
-    tables: &[Table],
-    bytes: &[u8],
-    at: usize,
-) -> Result<((u16, Key), usize), EntryFault>
+fn place_at(tables: &[Table], bytes: &[u8], at: usize) -> Result<((u16, Key), usize), EntryFault>
     ensures { Answers bytes.now result (next_place tables.now (from bytes.now at)) }
 {
     let (table, after) = number_at(bytes, at)?;

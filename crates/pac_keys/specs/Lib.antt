@@ -1,3 +1,4 @@
 pub mod Probes
 pub mod Records
 pub mod PlanCodes
+pub mod Interfaces

@@ -9,7 +9,8 @@ use pac_ops::{Conds, FlatOp};
 use pac_value::Expr;
 use std::alloc::Global;
 
-fn is_var(var: u16, defined: Option<u16>) -> bool
+/// Whether it is this variable that is defined.
+pub(crate) fn is_var(var: u16, defined: Option<u16>) -> bool
     ensures { result ≡ is_var var defined }
 {
     match defined {
@@ -18,7 +19,7 @@ fn is_var(var: u16, defined: Option<u16>) -> bool
     }
 }
 
-// Whether one of the operations defines the variable.
+/// Whether one of the operations defines the variable.
 pub(crate) fn defines(ops: &[(u16, FlatOp)], var: u16) -> bool
     ensures { result ≡ defined_in ops.now var }
 {

@@ -19,7 +19,7 @@ use Rattle.pac_commute.proofs.PlanFacts.{well_formed_plan, needs_plan, ends_as_r
 use Rattle.pac_base.proofs.TestLemmas.{or_right, and_left, same_number, any_gives, mem_each, each_mem}
 use Rattle.pac_lanes.specs.Shares.{applied_each, adds_all, RunsInOrder, HasInputsAtTurns, IsShareRun}
 use Rattle.pac_lanes.specs.Lanes.{Lane, StaysIn, is_lent_with, Agree, ArePart, IsPutBack}
-use Rattle.pac_commute.specs.Machine.{MayBeTaken, StepBy, StepsBy, Keeps}
+use Rattle.pac_commute.specs.Machine.{MayBeTaken, StepBy, StepsBy, KeepsJob}
 use Rattle.pac_commute.specs.Machine as steps
 use Rattle.pac_lanes.specs.Finish.{NothingOut, after_share, RunsAt, ShareStep, Loaded, Finished, ShareSteps, Any, FinishIsSteps, StepIsSteps, OpensShares, SharesKeep, SharesStayFinished, SharesEnd, IsLent, LentHasInputs, Beside, StaysLent, LentStays, ReturnIsFinish}
 use Rattle.pac_lanes.specs.Finish as finish
@@ -43,12 +43,12 @@ step_is_steps job May (Finished m ps runs may) none = (finish_is_steps job m non
 
 -- ---- what is kept
 
-pub step_keeps : (job : Job) → IsPlan job.parts → (May : Machine → List PieceId → Type 0) {m n : Machine} → ShareStep job May m n → Keeps job m → NothingOut m → Keeps job n × (NothingOut n)
+pub step_keeps : (job : Job) → IsPlan job.parts → (May : Machine → List PieceId → Type 0) {m n : Machine} → ShareStep job May m n → KeepsJob job m → NothingOut m → KeepsJob job n × (NothingOut n)
 step_keeps job is May step inv none =
     let s = step_is_steps job May step none in
     (runs_keep job is s.0 inv, s.1)
 
-pub all_keep : (job : Job) → IsPlan job.parts → (May : Machine → List PieceId → Type 0) {m n : Machine} → ShareSteps job May m n → Keeps job m → NothingOut m → Keeps job n × (NothingOut n)
+pub all_keep : (job : Job) → IsPlan job.parts → (May : Machine → List PieceId → Type 0) {m n : Machine} → ShareSteps job May m n → KeepsJob job m → NothingOut m → KeepsJob job n × (NothingOut n)
 all_keep job is May (finish.ShareSteps.Stop m) inv none = (inv, none)
 all_keep job is May (finish.ShareSteps.Then m n o step more) inv none = let k = step_keeps job is May step inv none in all_keep job is May more k.0 k.1
 
@@ -77,7 +77,7 @@ shares_end job is m inv all =
 
 -- ---- a share that is lent
 
-pub run_at : (job : Job) → IsPlan job.parts → (m : Machine) → Keeps job m → (ps : List PieceId) → RunsAt job m ps → IsShareRun (world_at job m) (ends_at job m) (pieces_at job m) (begin job m.batches) m.finished ps
+pub run_at : (job : Job) → IsPlan job.parts → (m : Machine) → KeepsJob job m → (ps : List PieceId) → RunsAt job m ps → IsShareRun (world_at job m) (ends_at job m) (pieces_at job m) (begin job m.batches) m.finished ps
 run_at job is m inv ps runs = run_law (world_at job m) (numbers_of job.first m.batches) (blocks_in job.parts)
     (needs_plan job.parts is job.first m.batches inv.run_on (in_tables job m inv)) (begin job m.batches) m.finished ps inv.closed runs
 
@@ -95,7 +95,7 @@ runs_there w env L F (q ∷ ps) runs p (inr m) = runs_there w env L (adds F q) p
 
 module _ (job : Job) (is : IsPlan job.parts) (lane : Lane) (share : List PieceId) where
   -- a batch is loaded
-  module _ (m : Machine) (inv : Keeps job m) (lent : IsLent job m lane share) (batch : Batch) (next : batch.first ≡ next_in_job job m.batches) (fits : TxnsFitPlan job.parts batch.txns) where
+  module _ (m : Machine) (inv : KeepsJob job m) (lent : IsLent job m lane share) (batch : Batch) (next : batch.first ≡ next_in_job job m.batches) (fits : TxnsFitPlan job.parts batch.txns) where
     abbrev n : Machine
     n = record m { batches = and_batch m.batches batch; now = loaded (next_in_job job m.batches) (begin job (and_batch m.batches batch)).envs m.now }
 
@@ -150,7 +150,7 @@ module _ (job : Job) (is : IsPlan job.parts) (lane : Lane) (share : List PieceId
     }
 
   -- pieces beside it are finished
-  pub lent_beside : (m : Machine) → Keeps job m → IsLent job m lane share → (qs : List PieceId) → RunsAt job m qs → Beside job lane share m qs → StaysLent job lane share m (after_share job m qs)
+  pub lent_beside : (m : Machine) → KeepsJob job m → IsLent job m lane share → (qs : List PieceId) → RunsAt job m qs → Beside job lane share m qs → StaysLent job lane share m (after_share job m qs)
   lent_beside m inv lent qs runs (other, disjoint, stays, apart) =
       let spared = others_spare (world_at job m) (well_formed_plan job.parts is job.first m.batches) (ends_at job m) (pieces_at job m) lane other disjoint share lent.stays m.finished qs m.now apart stays lent.runs runs
       (lent_has_inputs job is m inv qs runs) in
@@ -161,7 +161,7 @@ module _ (job : Job) (is : IsPlan job.parts) (lane : Lane) (share : List PieceId
         does = λ ps part s. refl;
       }
 
-  one_step : {m n : Machine} → ShareStep job (Beside job lane share) m n → Keeps job m → IsLent job m lane share → StaysLent job lane share m n
+  one_step : {m n : Machine} → ShareStep job (Beside job lane share) m n → KeepsJob job m → IsLent job m lane share → StaysLent job lane share m n
   one_step (Loaded m batch next fits) inv lent = lent_loaded m inv lent batch next fits
   one_step (Finished m qs runs beside) inv lent = lent_beside m inv lent qs runs beside
 
@@ -173,7 +173,7 @@ module _ (job : Job) (is : IsPlan job.parts) (lane : Lane) (share : List PieceId
     does = λ ps part s. b.does ps part s ∙ a.does ps part s;
   }
 
-  pub lent_steps : {m n : Machine} → ShareSteps job (Beside job lane share) m n → Keeps job m → NothingOut m → IsLent job m lane share → StaysLent job lane share m n × Keeps job n × (NothingOut n)
+  pub lent_steps : {m n : Machine} → ShareSteps job (Beside job lane share) m n → KeepsJob job m → NothingOut m → IsLent job m lane share → StaysLent job lane share m n × KeepsJob job n × (NothingOut n)
   lent_steps (finish.ShareSteps.Stop m) inv none lent = (record { lent = lent; places = λ c. refl; same = λ c k. refl; does = λ ps part s. refl }, inv, none)
   lent_steps (finish.ShareSteps.Then m n o step more) inv none lent =
       let one = one_step step inv lent in

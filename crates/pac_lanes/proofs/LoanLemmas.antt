@@ -31,7 +31,7 @@ use Rattle.pac_lanes.specs.Shares.{applied_each, RunsInOrder, HasInputsAtTurns, 
 use Rattle.pac_lanes.specs.Lanes.{StaysIn, is_lent_with, is_changed, Agree, ArePart}
 use Rattle.pac_lanes.specs.Rounds.{is_of}
 use Rattle.pac_lanes.specs.Stays.{lane_of}
-use Rattle.pac_commute.specs.Machine.{Keeps}
+use Rattle.pac_commute.specs.Machine.{KeepsJob}
 use Rattle.pac_lanes.specs.Finish.{NothingOut, after_share, RunsAt, Any, Loaded, Finished, StaysLent}
 use Rattle.pac_lanes.specs.Loans.{Loan, IsLoan, LoanApart, LoansApart, is_away, OpensHome, LoadKeepsHome, LendKeepsHome, LoanHasInputs, ReturnKeepsHome, AllAtHome, HomeEnds, LoanFits, ReturnFits, share_at, CutLends, CutLoansApart}
 use Rattle.pac_lanes.proofs.ShareLemmas.{may_be_parted}
@@ -130,7 +130,7 @@ load_keeps_home job is m home loans keeps batch next fits = record {
     n : Machine
     n = record m { batches = and_batch m.batches batch; now = loaded (next_in_job job m.batches) (begin job (and_batch m.batches batch)).envs m.now }
 
-    all : Keeps job n × (NothingOut n)
+    all : KeepsJob job n × (NothingOut n)
     all = step_keeps job is Any (Loaded m batch next fits) keeps.keeps keeps.in_hand
 
     stays : (l : Loan) → IsLoan job m l → StaysLent job l.lane l.share m n
@@ -232,7 +232,7 @@ return_keeps_home job is m home before loan after keeps run rest split home' put
     inputs : HasInputsAtTurns (world_at job m) (ends_at job m) run m.now
     inputs = lent_has_inputs job is m keeps.keeps run runs
 
-    all : Keeps job (after_share job m run) × NothingOut (after_share job m run)
+    all : KeepsJob job (after_share job m run) × NothingOut (after_share job m run)
     all = step_keeps job is Any (Finished m run runs tt) keeps.keeps keeps.in_hand
 
     beside : (k : Loan) → LoanApart (world_at job m) loan k → IsLoan job m k → IsLoan job (after_share job m run) k
@@ -343,7 +343,7 @@ loan_fits job is rows m home loans keeps loan ml fit run rest split =
     both : Agree (is_lent_with (world_at job m) loan.lane loan.share) (applied_each (world_at job m) run m.now) (applied_each (world_at job m) run loan.given) × HasInputsAtTurns (world_at job m) (ends_at job m) run loan.given
     both = alone (world_at job m) well_formed (ends_at job m) loan.lane loan.share run part mine.lent.stays m.now loan.given (lent_has_inputs job is m keeps.keeps run runs) mine.held
 
-    next : Keeps job (after_share job m run)
+    next : KeepsJob job (after_share job m run)
     next = (step_keeps job is Any (Finished m run runs tt) keeps.keeps keeps.in_hand).0
 
     stands : PresentFits job.parts (world_at job m) (applied_each (world_at job m) run m.now)

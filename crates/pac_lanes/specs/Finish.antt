@@ -13,7 +13,7 @@ use Rattle.pac_commute.specs.Loads.{Job, begin, next_in_job, loaded, and_batch}
 use Rattle.pac_commute.specs.Machine.{Machine, among, opening_machine, world_at, pieces_at, ends_at}
 use Rattle.pac_lanes.specs.Shares.{adds_all, applied_each, RunsInOrder, HasInputsAtTurns}
 use Rattle.pac_lanes.specs.Lanes.{Lane, StaysIn, AreDisjoint, is_lent_with, Agree, ArePart, IsPutBack}
-use Rattle.pac_commute.specs.Machine.{MayBeTaken, StepsBy, Keeps}
+use Rattle.pac_commute.specs.Machine.{MayBeTaken, StepsBy, KeepsJob}
 
 -- ---- steps
 
@@ -56,11 +56,11 @@ StepIsSteps = (job : Job) (m n : Machine) → ShareStep job Any m n → NothingO
 
 -- a machine with nothing loaded keeps what is said of machines, and nothing is out
 abbrev pub OpensShares : Type 0
-OpensShares = (job : Job) → Keeps job (opening_machine job) × (NothingOut (opening_machine job))
+OpensShares = (job : Job) → KeepsJob job (opening_machine job) × (NothingOut (opening_machine job))
 
 -- and so do steps one after another: the state is the partial replay of what is finished
 abbrev pub SharesKeep : Type 0
-SharesKeep = (job : Job) → IsPlan job.parts → (m n : Machine) → ShareSteps job Any m n → Keeps job m → NothingOut m → Keeps job n × (NothingOut n)
+SharesKeep = (job : Job) → IsPlan job.parts → (m n : Machine) → ShareSteps job Any m n → KeepsJob job m → NothingOut m → KeepsJob job n × (NothingOut n)
 
 -- no step takes back what is finished
 abbrev pub SharesStayFinished : Type 0
@@ -68,7 +68,7 @@ SharesStayFinished = (job : Job) (m n : Machine) → ShareSteps job Any m n → 
 
 -- when all pieces are finished, it has the replayed tables and their first note
 abbrev pub SharesEnd : Type 0
-SharesEnd = (job : Job) → IsPlan job.parts → (m : Machine) → Keeps job m → ((p : PieceId) → Mem p (pieces_at job m) → m.finished p ≡ true)
+SharesEnd = (job : Job) → IsPlan job.parts → (m : Machine) → KeepsJob job m → ((p : PieceId) → Mem p (pieces_at job m) → m.finished p ≡ true)
     → (m.now.tables ≡ (replayed job.parts.programs job.first (txns_of m.batches) job.tables).tables)
     × (m.now.note ≡ first_note (replayed job.parts.programs job.first (txns_of m.batches) job.tables).notes)
 
@@ -81,7 +81,7 @@ pub record IsLent (job : Job) (m : Machine) (lane : Lane) (share : List PieceId)
 
 -- its pieces find their inputs at their turns
 abbrev pub LentHasInputs : Type 0
-LentHasInputs = (job : Job) → IsPlan job.parts → (m : Machine) → Keeps job m → (ps : List PieceId) → RunsAt job m ps → HasInputsAtTurns (world_at job m) (ends_at job m) ps m.now
+LentHasInputs = (job : Job) → IsPlan job.parts → (m : Machine) → KeepsJob job m → (ps : List PieceId) → RunsAt job m ps → HasInputsAtTurns (world_at job m) (ends_at job m) ps m.now
 
 -- pieces that may be finished beside it: they stay in a lane that is disjoint from its own, and none is of the share
 abbrev pub Beside : Job → Lane → List PieceId → Machine → List PieceId → Type 0
@@ -96,12 +96,12 @@ pub record StaysLent (job : Job) (lane : Lane) (share : List PieceId) (m n : Mac
 
 -- whatever is loaded and finished beside it
 abbrev pub LentStays : Type 0
-LentStays = (job : Job) → IsPlan job.parts → (lane : Lane) (share : List PieceId) (m n : Machine) → Keeps job m → NothingOut m → IsLent job m lane share
-    → ShareSteps job (Beside job lane share) m n → StaysLent job lane share m n × Keeps job n × (NothingOut n)
+LentStays = (job : Job) → IsPlan job.parts → (lane : Lane) (share : List PieceId) (m n : Machine) → KeepsJob job m → NothingOut m → IsLent job m lane share
+    → ShareSteps job (Beside job lane share) m n → StaysLent job lane share m n × KeepsJob job n × (NothingOut n)
 
 -- what the first pieces of a share made of what was lent when it was given out, put back now, is these pieces finished; the rest is lent still
 abbrev pub ReturnIsFinish : Type 0
-ReturnIsFinish = (job : Job) → IsPlan job.parts → (lane : Lane) (run rest : List PieceId) (m n : Machine) → Keeps job m → NothingOut m → IsLent job m lane (run ++ rest)
+ReturnIsFinish = (job : Job) → IsPlan job.parts → (lane : Lane) (run rest : List PieceId) (m n : Machine) → KeepsJob job m → NothingOut m → IsLent job m lane (run ++ rest)
     → ShareSteps job (Beside job lane (run ++ rest)) m n
     → (lent after : Present) → Agree (is_lent_with (world_at job m) lane (run ++ rest)) m.now lent → lent.note ≡ None
     → IsPutBack (world_at job n) lane (run ++ rest) (applied_each (world_at job m) run lent) n.now after

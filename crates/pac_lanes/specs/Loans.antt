@@ -18,7 +18,7 @@ use Rattle.pac_lanes.specs.Shares.{applied_each, HasInputsAtTurns, PieceCode, co
 use Rattle.pac_lanes.specs.Lanes.{Lane, AreDisjoint, is_lent_with, is_changed, Agree, IsPutBack}
 use Rattle.pac_lanes.specs.Rounds.{StageCut, IsCut, rest_of, is_of, MayBeLent}
 use Rattle.pac_lanes.specs.Stays.{groups_clash, lane_of, IsOfGroup}
-use Rattle.pac_commute.specs.Machine.{Keeps}
+use Rattle.pac_commute.specs.Machine.{KeepsJob}
 use Rattle.pac_lanes.specs.Finish.{NothingOut, after_share, IsLent}
 
 -- ---- loans
@@ -54,7 +54,7 @@ is_away w loans c = list_any (λ loan. is_changed w loan.lane loan.share c) loan
 
 -- the state of the machine is the partial replay of what is finished; loans are apart; what isn't away is at home, and the note is
 pub record KeepsHome (job : Job) (m : Machine) (home : Present) (loans : List Loan) : Type 0 where
-  pub keeps : Keeps job m
+  pub keeps : KeepsJob job m
   pub in_hand : NothingOut m
   pub each : Each (IsLoan job m) loans
   pub apart : LoansApart (world_at job m) loans

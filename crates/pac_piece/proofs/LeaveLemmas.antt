@@ -12,7 +12,7 @@ use Rattle.pac_tables.specs.Written.{IsOnce, cell_written, is_written, written}
 use Rattle.pac_tables.proofs.WriteLemmas.{remove-absent}
 use Rattle.pac_piece.specs.declared.ground.Ground.{Ground}
 use Rattle.pac_piece.specs.Changes.{is_at, ChangesCell}
-use Rattle.pac_piece.specs.InPlace.{HaveRoom, IsLeft, KeepsGround, Stands, tables_seen, tables_before}
+use Rattle.pac_piece.specs.InPlace.{HaveCellRoom, IsLeft, KeepsGround, Stands, tables_seen, tables_before}
 use Rattle.pac_piece.proofs.WriteLookups.{first_at, get-none, none_at}
 use Rattle.pac_piece.proofs.PlaceLemmas.{seen-put, still}
 use Rattle.pac_piece.proofs.TableLemmas.{written_here}
@@ -23,9 +23,9 @@ some_at cell ws i d found =
     let first = first_at cell ws i found in
     ap (is_written ws) (tied_same cell (cell_written (get_or ws i d)) (first.here d)) ∙ written_here ws i d first.inside
 
-pub found_at : (cell : Cell) (ws : List Write) (r : Option ℕ) → position (is_at cell) ws ≡ r → is_some r ≡ true → is_written ws cell ≡ true
-found_at cell ws None e t = cc
-found_at cell ws (Some i) e t = some_at cell ws i (record { table = cell.0; key = cell.1; row = None }) e
+pub state_found : (cell : Cell) (ws : List Write) (r : Option ℕ) → position (is_at cell) ws ≡ r → is_some r ≡ true → is_written ws cell ≡ true
+state_found cell ws None e t = cc
+state_found cell ws (Some i) e t = some_at cell ws i (record { table = cell.0; key = cell.1; row = None }) e
 
 pub none_found : (cell : Cell) (ws : List Write) (r : Option ℕ) → position (is_at cell) ws ≡ r → is_some r ≡ false → is_written ws cell ≡ false
 none_found cell ws None e t = none_at cell ws e
@@ -55,7 +55,7 @@ module _ {R : Type 0} (held : R → Tables) (tables : R → ℕ) (cell : Cell) (
       count = ap tables rows;
       before = (λ i. written (held (rows i)) (olds i));
       stands = record {
-        room = subst (λ (r : R). HaveRoom (tables r) (held r) new.olds.items) (sym rows) (subst (HaveRoom (tables old.rows) (held old.rows)) (sym olds) stands.room);
+        room = subst (λ (r : R). HaveCellRoom (tables r) (held r) new.olds.items) (sym rows) (subst (HaveCellRoom (tables old.rows) (held old.rows)) (sym olds) stands.room);
         once = changes.once;
         there = λ a e. subst (λ (r : R). a.0 < tables r) (sym rows) (⊎_elim
             (λ same. subst (λ (b : Cell). b.0 < tables old.rows) (sym (tied_same a cell same)) there)
@@ -77,7 +77,7 @@ module _ {R : Type 0} (held : R → Tables) (tables : R → ℕ) (cell : Cell) (
     count = ap tables rows;
     before = (λ i. written (held (rows i)) (olds i));
     stands = record {
-      room = subst (λ (r : R). HaveRoom (tables r) (held r) new.olds.items) (sym rows) (subst (HaveRoom (tables old.rows) (held old.rows)) (sym olds) stands.room);
+      room = subst (λ (r : R). HaveCellRoom (tables r) (held r) new.olds.items) (sym rows) (subst (HaveCellRoom (tables old.rows) (held old.rows)) (sym olds) stands.room);
       once = subst (λ ws. IsOnce ws) (sym same) stands.once;
       there = λ a e. subst (λ (r : R). a.0 < tables r) (sym rows) (stands.there a (sym (ap (λ ws. is_written ws a) same) ∙ e));
       placed = λ a e. subst (λ (r : R). IsSome (get (held r) a)) (sym rows) (stands.placed a (sym (ap (λ ws. is_written ws a) same) ∙ e));
@@ -86,7 +86,7 @@ module _ {R : Type 0} (held : R → Tables) (tables : R → ℕ) (cell : Cell) (
 
   -- a row is put where none of these is, or no room was found
   module _ (row : RowValues) (writes : new.frame.writes.items ≡ old.frame.writes.items) (before : tables_before held new ≡ tables_before held old)
-      (room : HaveRoom (tables old.rows) (held old.rows) old.olds.items → HaveRoom (tables new.rows) (held new.rows) new.olds.items) (count : tables new.rows ≡ tables old.rows) where
+      (room : HaveCellRoom (tables old.rows) (held old.rows) old.olds.items → HaveCellRoom (tables new.rows) (held new.rows) new.olds.items) (count : tables new.rows ≡ tables old.rows) where
     pub put-left : held new.rows ≡ insert (held old.rows) cell row → is_written old.frame.writes.items cell ≡ false → IsLeft held cell (Some row) old new
     put-left put none = (λ i. written (put i) (writes i)) ∙ seen-put (held old.rows) cell (Some row) old.frame.writes.items none
 

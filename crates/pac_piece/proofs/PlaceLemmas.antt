@@ -10,18 +10,18 @@ use Rattle.pac_tables.specs.declared.writes.Write.{Write}
 use Rattle.pac_tables.specs.Written.{IsOnce, HasRow, cell_written, is_written, written}
 use Rattle.pac_tables.specs.Room.{IsReady}
 use Rattle.pac_tables.proofs.WriteLemmas.{written-last, remove-absent}
-use Rattle.pac_piece.specs.InPlace.{HaveRoom}
+use Rattle.pac_piece.specs.InPlace.{HaveCellRoom}
 use Rattle.pac_piece.proofs.WriteLookups.{exchanged, get-none, twice}
 
 -- ---- the last of the writes is made first
 
-pub room-last : (n : ℕ) (t : Tables) (ws : List Write) (w : Write) → HaveRoom n t (ws ++ w ∷ []) → IsReady n t w × HaveRoom n (with_row t (cell_written w) w.row) ws
+pub room-last : (n : ℕ) (t : Tables) (ws : List Write) (w : Write) → HaveCellRoom n t (ws ++ w ∷ []) → IsReady n t w × HaveCellRoom n (with_row t (cell_written w) w.row) ws
 room-last n t [] w h = (h.0, tt)
 room-last n t (v ∷ ws) w h =
     let rest = room-last n t ws w h.1 in
     (rest.0, (subst (λ (m : Tables). IsReady n m v) (written-last t ws w) h.0, rest.1))
 
-pub room-more : (n : ℕ) (t s : Tables) (ws : List Write) (w : Write) → with_row s (cell_written w) w.row ≡ t → IsReady n s w → HaveRoom n t ws → HaveRoom n s (ws ++ w ∷ [])
+pub room-more : (n : ℕ) (t s : Tables) (ws : List Write) (w : Write) → with_row s (cell_written w) w.row ≡ t → IsReady n s w → HaveCellRoom n t ws → HaveCellRoom n s (ws ++ w ∷ [])
 room-more n t s [] w back ready h = (ready, tt)
 room-more n t s (v ∷ ws) w back ready h =
     (subst (λ (m : Tables). IsReady n m v) (sym (written-last s ws w ∙ ap (λ (m : Tables). written m ws) back)) h.0, room-more n t s ws w back ready h.1)
@@ -38,7 +38,7 @@ put-back t c row old is = same_map cells_total cells_antisymmetric _ _ (λ q.
 -- ---- what is to stand at the end
 
 -- no cell is written twice, and a row stands at each: all find room
-pub room-ends : (n : ℕ) (t : Tables) (ws : List Write) → IsOnce ws → ((a : Cell) → is_written ws a ≡ true → a.0 < n) → ((a : Cell) → is_written ws a ≡ true → IsSome (get t a)) → HaveRoom n t ws
+pub room-ends : (n : ℕ) (t : Tables) (ws : List Write) → IsOnce ws → ((a : Cell) → is_written ws a ≡ true → a.0 < n) → ((a : Cell) → is_written ws a ≡ true → IsSome (get t a)) → HaveCellRoom n t ws
 room-ends n t [] once there placed = tt
 room-ends n t (w ∷ ws) once there placed = (
   record {
@@ -79,8 +79,8 @@ module _ (t : Tables) (cell : Cell) (row : RowValues) (s : Tables) (olds news : 
   pub before-kept : written s news ≡ written t olds
   before-kept = ap (written s) more ∙ written-last s olds old ∙ ap (λ (m : Tables). written m olds) back
 
-  pub room-kept : (n : ℕ) → cell.0 < n → HaveRoom n t olds → HaveRoom n s news
-  room-kept n there room = subst (HaveRoom n s) (sym more) (room-more n t s olds old back (record {
+  pub room-kept : (n : ℕ) → cell.0 < n → HaveCellRoom n t olds → HaveCellRoom n s news
+  room-kept n there room = subst (HaveCellRoom n s) (sym more) (room-more n t s olds old back (record {
     within = subst (λ (w : Write). w.table < n) (sym old_is) there;
     placed = λ some. subst (λ (m : Tables). IsSome (get m (cell_written old))) (sym put) (still_at (cell_written old) (ap cell_written old_is));
   }) room)

@@ -26,9 +26,9 @@ use Rattle.pac_piece.specs.Values.{code_end, state_over}
 use Rattle.pac_piece.specs.declared.ground.Ground.{Ground}
 
 -- writes that are made from the last to the first, and take no memory: each row that is put replaces one
-abbrev pub HaveRoom : ℕ → Tables → List Write → Type 0
-HaveRoom tables held [] = Unit {0}
-HaveRoom tables held (w ∷ ws) = IsReady tables (written held ws) w × HaveRoom tables held ws
+abbrev pub HaveCellRoom : ℕ → Tables → List Write → Type 0
+HaveCellRoom tables held [] = Unit {0}
+HaveCellRoom tables held (w ∷ ws) = IsReady tables (written held ws) w × HaveCellRoom tables held ws
 
 -- no piece is in course
 pub record IsAtRest {R : Type 0} (ground : Ground R) : Type 0 where
@@ -70,7 +70,7 @@ module _ {R : Type 0} (held : R → Tables) where
   module _ (tables : R → ℕ) where
     -- what was kept can be put back, and what is to stand at the end can be made, with no memory
     pub record Stands (ground : Ground R) : Type 0 where
-      pub room : HaveRoom (tables ground.rows) (held ground.rows) ground.olds.items
+      pub room : HaveCellRoom (tables ground.rows) (held ground.rows) ground.olds.items
       pub once : IsOnce ground.frame.writes.items
       pub there : (a : Cell) → is_written ground.frame.writes.items a ≡ true → a.0 < tables ground.rows
       pub placed : (a : Cell) → is_written ground.frame.writes.items a ≡ true → IsSome (get (held ground.rows) a)
@@ -96,15 +96,15 @@ place_code = code_by (ℕ × (Tables × (Values × Option Note))) (coded× coded
     (λ p. (p.count, (p.tables, (p.values, p.note)))) (λ q. record { count = q.0; tables = q.1.0; values = q.1.1.0; note = q.1.1.1 }) (λ p. refl)
 
 -- the state that a piece finds there
-abbrev pub found_at : Place → State
-found_at place = state_over place.values place.tables
+abbrev pub state_found : Place → State
+state_found place = state_over place.values place.tables
 
 -- the place after code of the transaction with a number
 abbrev pub after_code : ℕ → Code → Place → Place
 after_code txn code place = record place {
   tables = (code_end code place.values place.tables).tables;
   values = (code_end code place.values place.tables).env;
-  note = least place.note (first_note (notes_after txn (code_ops code) (found_at place)));
+  note = least place.note (first_note (notes_after txn (code_ops code) (state_found place)));
 }
 
 -- tables and note are as before, and the values those after the first operations, however many: they are all values that the code gives
@@ -113,7 +113,7 @@ pub record IsUndone (code : Code) (old new : Place) : Type 0 where
   pub note : new.note ≡ old.note
   pub size : new.count ≡ old.count
   pub done : ℕ
-  pub values : new.values ≡ (after_ops (take done (code_ops code)) (found_at old)).env
+  pub values : new.values ≡ (after_ops (take done (code_ops code)) (state_found old)).env
 
 -- ---- in the words of the laws of pieces
 

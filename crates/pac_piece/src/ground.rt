@@ -3,7 +3,7 @@ ghost use Rattle.std.specs.Prelude.{◌≡◌, ◌<◌, [], IfOk, OnErr, OnOk};
 ghost use Rattle.std.specs.FinMap.{get, insert};
 ghost use Rattle.pac_tables.specs.Room.{IsReady};
 ghost use Rattle.pac_tables.specs.Written.{cell_written, written};
-ghost use Rattle.pac_piece.specs.InPlace.{HaveRoom, IsAtRest, IsLeft, KeepsGround, Stands, tables_before, tables_seen};
+ghost use Rattle.pac_piece.specs.InPlace.{HaveCellRoom, IsAtRest, IsLeft, KeepsGround, Stands, tables_before, tables_seen};
 ghost use Rattle.pac_value.specs.State.{with_row};
 
 use crate::changes::{change, find};
@@ -61,7 +61,7 @@ fn put<R: Rows>(
     ensures ok { OnOk result (R.held rows.new ≡ insert (R.held rows.old) (table, key.now) row) }
     ensures err { OnErr result (R.held rows.new ≡ R.held rows.old) }
     ensures before { written (R.held rows.new) olds.new.items ≡ written (R.held rows.old) olds.old.items }
-    ensures room { HaveRoom (R.tables rows.old) (R.held rows.old) olds.old.items → HaveRoom (R.tables rows.new) (R.held rows.new) olds.new.items }
+    ensures room { HaveCellRoom (R.tables rows.old) (R.held rows.old) olds.old.items → HaveCellRoom (R.tables rows.new) (R.held rows.new) olds.new.items }
     ensures tables { R.tables rows.new ≡ R.tables rows.old }
 {
     olds.reserve(1)?;
@@ -117,7 +117,7 @@ pub(crate) fn undo<R: Rows>(ground: &mut Ground<R>)
 
 // Makes writes that take no memory, the last of them first.
 fn make_all<R: Rows>(rows: &mut R, writes: &mut Vec<Write>)
-    requires { HaveRoom (R.tables rows.old) (R.held rows.old) writes.old.items }
+    requires { HaveCellRoom (R.tables rows.old) (R.held rows.old) writes.old.items }
     ensures rows { R.held rows.new ≡ written (R.held rows.old) writes.old.items }
     ensures writes { writes.new.items ≡ [] }
     ensures tables { R.tables rows.new ≡ R.tables rows.old }

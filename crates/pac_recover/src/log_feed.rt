@@ -12,7 +12,7 @@ ghost use Rattle.pac_recover.specs.FedLogs.{AreBodiesCounted, AreCounted, IsGive
 use pac_log::{LogError, LogReader};
 use pac_ops::Batch;
 use pac_outside::Disk;
-use pac_workers::Feed;
+use pac_workers::{Feed, GhostList};
 
 /// Why a feed of a log gives no more.
 #[derive(Clone, Copy, Debug, PartialEq, Eq)]
@@ -26,30 +26,38 @@ pub enum FeedEnd {
 }
 
 /// Gives the batches of a log from the reader's gate on, until their bodies are as long as a window. The reader stands after
-/// them.
+/// them. What was given is appended to a list that has no bytes.
 #[derive(Drop)]
-pub struct LogFeed<'r, 'd, D: Disk> {
+pub struct LogFeed<'r, 'd, 'l, D: Disk> {
     reader: &'r mut LogReader,
     disk: &'d mut D,
     /// How many bytes the bodies have that are missing until its window is full.
     missing: u64,
     end: Option<FeedEnd>,
+    so_far: &'l mut GhostList<Batch>,
 }
 
-impl<'r, 'd, D: Disk> LogFeed<'r, 'd, D> {
+impl<'r, 'd, 'l, D: Disk> LogFeed<'r, 'd, 'l, D> {
     /// Nothing is given. It takes no memory.
-    pub fn new(reader: &'r mut LogReader, disk: &'d mut D, window: u64) -> LogFeed<'r, 'd, D>
+    pub fn new(
+        reader: &'r mut LogReader,
+        disk: &'d mut D,
+        so_far: &'l mut GhostList<Batch>,
+        window: u64,
+    ) -> LogFeed<'r, 'd, 'l, D>
         requires { 1 ≤ window }
         ensures reader { result.reader ≡ reader.entry }
         ensures disk { result.disk ≡ disk.entry }
         ensures missing { result.missing ≡ window }
         ensures end { result.end ≡ ANone }
+        ensures so_far { result.so_far ≡ so_far.entry }
     {
         LogFeed {
             reader,
             disk,
             missing: window,
             end: None,
+            so_far,
         }
     }
 
@@ -80,7 +88,9 @@ impl<'r, 'd, D: Disk> LogFeed<'r, 'd, D> {
     }
 }
 
-impl<'r, 'd, D: Disk> Feed for LogFeed<'r, 'd, D> {
+impl<'r, 'd, 'l, D: Disk> Feed for LogFeed<'r, 'd, 'l, D> {
+    ghost so_far = { λ feed. feed.so_far.now.items };
+
     ghost gives = { λ old given new. (new.reader.ghost_name ≡ old.reader.ghost_name) × (new.disk.ghost_name ≡ old.disk.ghost_name)
         × AreBodiesCounted old.missing new.missing given old.end new.end
         × (old.end ≡ ANone → AreCounted (D.faults old.disk.now) (D.faults new.disk.now) new.end)
@@ -109,6 +119,7 @@ impl<'r, 'd, D: Disk> Feed for LogFeed<'r, 'd, D> {
             Ok(batch) => {
                 let len = self.reader.gate().place().saturating_sub(before);
                 self.missing = self.missing.saturating_sub(len.saturating_sub(1)); // but for the gate
+                *self.so_far = self.so_far.with(&batch);
                 Some(batch)
             }
             Err(end) => {

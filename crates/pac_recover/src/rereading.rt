@@ -23,9 +23,10 @@ use crate::slots::{misplaced, place_in};
 use crate::windows::{ExecutedWindow, execute_window};
 use crate::{Execution, LoadError};
 use pac_check::SlotInfo;
+use pac_keys::PlanCode;
 use pac_log::LogReader;
 use pac_outside::{Disk, Gate};
-use pac_plan::Plan;
+use pac_plan::Shared;
 use pac_tables::{JoinedRows, TableRows};
 use pac_types::Catalogue;
 use std::alloc::Global;
@@ -52,7 +53,7 @@ pub(crate) fn replay_scanned<
     workers: u32,
     window: u64,
     cat: &Catalogue,
-    plan: &Plan,
+    plan: &Shared<PlanCode>,
     newest: Option<SlotInfo>,
     tables: JoinedRows<T>,
     reader: &mut LogReader,
@@ -118,7 +119,7 @@ fn replay_windows<D: Disk, T: TableRows + Send, H: Threads + Wait + Sync, G: Gat
     workers: u32,
     window: u64,
     cat: &Catalogue,
-    plan: &Plan,
+    plan: &Shared<PlanCode>,
     mut tables: JoinedRows<T>,
     reader: &mut LogReader,
     disk: &mut D,

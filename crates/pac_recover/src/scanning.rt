@@ -3,6 +3,7 @@ ghost use Rattle.std.specs.Prelude.{◌≡◌, false, ℕ, List, IfOk, IsErrOf, 
 ghost use Rattle.pac_outside.specs.Devices.{OneFaulted, each};
 ghost use Rattle.pac_outside.specs.Disk.{IfKnown};
 ghost use Rattle.pac_types.specs.Fits.{FitsCatalogue, shape};
+ghost use Rattle.pac_types.specs.OperationLimits.{HasFewOperations};
 ghost use Rattle.pac_flat.specs.Agreement.{ReplaysTheSame};
 ghost use Rattle.pac_flat.specs.FlatForm.{program_of};
 ghost use Rattle.pac_plan.specs.Analysis.{IsAnalysis};
@@ -21,12 +22,13 @@ use crate::LoadError;
 use crate::loading::txns_in;
 use crate::passing::{PassedLog, pass_log};
 use crate::slots::{read_slots, read_tables};
-use pac_base::Exact;
+use pac_base::{Exact, NoMemory};
 use pac_check::{SlotName, Slots};
 use pac_global::catalogue_plan;
+use pac_keys::PlanCode;
 use pac_log::LogReader;
 use pac_outside::{Devices, Disk};
-use pac_plan::Plan;
+use pac_plan::Shared;
 use pac_tables::HashedRows;
 use pac_types::Catalogue;
 use std::alloc::Global;
@@ -36,8 +38,8 @@ use std::alloc::Global;
 pub struct Scanned {
     /// The catalogue of the log.
     pub catalogue: Catalogue,
-    /// Its plan.
-    pub plan: Plan,
+    /// Its plan, with the code of its pieces.
+    pub plan: Shared<PlanCode>,
     /// The tables of the newest slot; without rows where no slot is open.
     pub tables: HashedRows,
     /// How many transactions are in them.
@@ -94,15 +96,27 @@ pub fn scan<D: Disk>(alloc: Global, devices: &mut Devices<D>) -> Result<Scanned,
         &mut devices.slot_a,
         &mut devices.slot_b,
     )?;
-    let plan = catalogue_plan(alloc, &catalogue)?;
+    let plan = shared_plan(alloc, &catalogue)?;
     Ok(joined(log, catalogue, plan, tables, slots))
+}
+
+// The plan of a catalogue, with the code of its pieces.
+fn shared_plan(alloc: Global, cat: &Catalogue) -> Result<Shared<PlanCode>, NoMemory>
+    requires { HasFewOperations cat.now.procs }
+    ensures programs { IfOk result (λ plan. plan.programs ≡ map program_of cat.now.procs) }
+    ensures shapes { IfOk result (λ plan. plan.tables ≡ map shape cat.now.tables) }
+    ensures analysis { IfOk result (λ plan. IsAnalysis plan) }
+    ensures replays { IfOk result (λ plan. ReplaysTheSame cat.now.procs plan.programs) }
+{
+    let plan = catalogue_plan(alloc, cat)?;
+    Shared::new(alloc, PlanCode::new(alloc, plan)?)
 }
 
 // What was scanned, of a log, its catalogue and plan, and the newest tables of slots at its gates.
 fn joined(
     log: PassedLog,
     catalogue: Catalogue,
-    plan: Plan,
+    plan: Shared<PlanCode>,
     tables: HashedRows,
     slots: Slots,
 ) -> Scanned

@@ -16,11 +16,13 @@ use crate::workers::execution_of;
 use crate::{Execution, LoadError, LogFeed};
 use pac_base::Exact;
 use pac_core::execute_feed;
+use pac_keys::PlanCode;
 use pac_log::LogReader;
 use pac_outside::{Disk, Gate};
-use pac_plan::Plan;
+use pac_plan::Shared;
 use pac_tables::{JoinedRows, TableRows};
 use pac_types::Catalogue;
+use pac_workers::GhostList;
 use std::alloc::Global;
 use std::sync::Wait;
 use std::thread::Threads;
@@ -51,7 +53,7 @@ pub(crate) fn execute_window<
     workers: u32,
     bytes: u64,
     _cat: &Catalogue,
-    plan: &Plan,
+    plan: &Shared<PlanCode>,
     tables: JoinedRows<T>,
     reader: &mut LogReader,
     disk: &mut D,
@@ -75,7 +77,8 @@ pub(crate) fn execute_window<
 {
     let plan = plan.copy(alloc)?;
     let first = reader.gate().txns() + 1;
-    let mut feed = LogFeed::new(reader, disk, bytes);
+    let mut so_far = GhostList::new();
+    let mut feed = LogFeed::new(reader, disk, &mut so_far, bytes);
     let executed = execute_feed(rt, alloc, workers, plan, first, tables, &mut feed, gate);
     if let Some(cause) = feed.refusal() {
         return Err(LoadError::from(cause));

@@ -1,6 +1,6 @@
 //! Tests of the replay, from scripts to the tables that it leaves: where batches are cut, what the pieces of procedures are
-//! and touch, in which order they are handed out, and that orders taken at random leave what serial execution does. It has no calls of
-//! its own.
+//! and touch, in which order they are handed out, that orders taken at random leave what serial execution does, and that workers count
+//! each piece once. It has no calls of its own.
 //!
 //! It stands beside `pac_tests`, on the crates of the replay alone, so that it waits for no command. Most functions
 //! own one thing that has memory and lend it on, which keeps their proofs short.
@@ -38,3 +38,5 @@ mod steps;
 mod takes;
 #[cfg(test)]
 mod undone;
+#[cfg(test)]
+mod workers;

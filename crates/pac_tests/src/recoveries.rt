@@ -1,8 +1,9 @@
 // Recoveries by workers, through the top call: who passes the gate, and what they write.
-use crate::replays::{IN_ORDER, Passed, TwoAtOnce, no_devices, sink_of};
+use crate::replays::{IN_ORDER, no_devices, sink_of};
 use pac_main::pacman;
 use pac_outside::{Devices, Gate, MemDisk, MemSource, OpenGate};
 use pac_script::BANK;
+use pac_worker_tests::gates::{Logging, Meeting};
 use std::alloc::{AllocError, Global};
 use std::sync::Wait;
 use std::test::Fail;
@@ -60,7 +61,7 @@ fn recovered<H: Threads + Wait + Sync>(
     rt: &H,
     alloc: Global,
     devices: &mut Devices<MemDisk>,
-    held: &TwoAtOnce,
+    held: &Meeting,
 ) -> Result<u8, AllocError> {
     let made = ended(
         rt,
@@ -87,10 +88,10 @@ fn recovered<H: Threads + Wait + Sync>(
 #[test]
 fn two_workers_recover_at_once(rt: HostRuntime) -> Result<(), Fail> {
     let alloc = rt.alloc();
-    let held = TwoAtOnce::new();
+    let held = Meeting::new();
     let mut devices = no_devices(alloc);
     let status = recovered(&rt, alloc, &mut devices, &held)?;
-    assert!(rt; status == 0 && held.was_met(), "status {status}");
+    assert!(rt; status == 0 && held.have_met(), "status {status}");
     Ok(())
 }
 
@@ -131,7 +132,7 @@ pub(crate) fn is_stored<H: Threads + Wait + Sync>(
 #[test]
 fn one_worker_recovers_in_order(rt: HostRuntime) -> Result<(), Fail> {
     let alloc = rt.alloc();
-    let passed = Passed::new(alloc, 16)?;
+    let passed = Logging::new(alloc, 16)?;
     let mut devices = no_devices(alloc);
     assert!(rt; is_stored(&rt, alloc, THREE_LINES.as_bytes(), &mut devices)?);
     let words = ["recover", "--workers", "1"];

@@ -3,115 +3,11 @@ use crate::streams::OneByte;
 use pac_main::pacman;
 use pac_outside::{Devices, Gate, MemDisk, MemSink, MemSource};
 use pac_script::BANK;
+use pac_worker_tests::gates::{Logging, Meeting};
 use std::alloc::{AllocError, Global};
 use std::sync::Wait;
-use std::sync::atomic::{AtomicU64, Ordering};
 use std::test::Fail;
-use std::thread;
 use std::thread::Threads;
-
-/// Writes down which pieces pass, in order.
-#[derive(Drop)]
-pub(crate) struct Passed {
-    count: AtomicU64,
-    pieces: Vec<AtomicU64>,
-}
-
-impl Passed {
-    pub fn new(alloc: Global, room: u64) -> Result<Passed, AllocError> {
-        let mut pieces = Vec::new(alloc);
-        for _ in 0..room {
-            pieces.push(AtomicU64::new(0))?;
-        }
-        Ok(Passed {
-            count: AtomicU64::new(0),
-            pieces,
-        })
-    }
-
-    // Whether these passed, by transaction and block, and no others.
-    pub fn are(&self, expected: &[(u64, u16)]) -> bool {
-        if self.count.load(Ordering::SeqCst) != expected.len() as u64 {
-            return false;
-        }
-        for (piece, (txn, block)) in self.pieces.iter().zip(expected) {
-            if piece.load(Ordering::SeqCst) != number(*txn, *block) {
-                return false;
-            }
-        }
-        true
-    }
-
-    // How often this piece passed.
-    fn times(&self, txn: u64, block: u16) -> u64 {
-        let mut times = 0u64;
-        for piece in &self.pieces {
-            if piece.load(Ordering::SeqCst) == number(txn, block) {
-                times = times.saturating_add(1);
-            }
-        }
-        times
-    }
-
-    // Whether a transaction has a piece in each of these blocks that passed once.
-    fn are_once(&self, txn: u64, blocks: &[u16]) -> bool {
-        for block in blocks {
-            if self.times(txn, *block) != 1 {
-                return false;
-            }
-        }
-        true
-    }
-}
-
-fn number(txn: u64, block: u16) -> u64 {
-    txn.wrapping_mul(65_536).wrapping_add(u64::from(block))
-}
-
-impl Gate for Passed {
-    fn enter(&self, _worker: u32, txn: u64, block: u16) {
-        let at = self.count.fetch_add(1, Ordering::SeqCst);
-        if let Some(piece) = self.pieces.get(at as usize) {
-            piece.store(number(txn, block), Ordering::SeqCst);
-        }
-    }
-}
-
-/// Holds the first that comes until another comes, for at most 1,000,000 turns.
-#[derive(Drop)]
-pub(crate) struct TwoAtOnce {
-    came: AtomicU64,
-    gave_up: AtomicU64,
-}
-
-impl TwoAtOnce {
-    pub fn new() -> TwoAtOnce {
-        TwoAtOnce {
-            came: AtomicU64::new(0),
-            gave_up: AtomicU64::new(0),
-        }
-    }
-
-    // Whether two were there at once.
-    pub fn was_met(&self) -> bool {
-        self.came.load(Ordering::SeqCst) > 1 && self.gave_up.load(Ordering::SeqCst) == 0
-    }
-}
-
-impl Gate for TwoAtOnce {
-    fn enter(&self, _worker: u32, _txn: u64, _block: u16) {
-        if self.came.fetch_add(1, Ordering::SeqCst) > 0 {
-            return;
-        }
-        for _ in 0..1_000_000u32 {
-            if self.came.load(Ordering::SeqCst) > 1 {
-                return;
-            }
-            thread::yield_now();
-        }
-        self.gave_up.store(1, Ordering::SeqCst);
-    }
-}
 
 fn push_words(
     alloc: Global,
@@ -206,7 +102,7 @@ fn bank_script(alloc: Global) -> Result<Vec<u8>, AllocError> {
 #[test]
 fn one_worker_passes_in_order(rt: HostRuntime) -> Result<(), Fail> {
     let alloc = rt.alloc();
-    let passed = Passed::new(alloc, 16)?;
+    let passed = Logging::new(alloc, 16)?;
     let status = executed(&rt, alloc, &["replay"], "1", bank_script(alloc)?, &passed)?;
     assert!(rt; status == 0 && passed.are(IN_ORDER), "status {status}");
     Ok(())
@@ -230,7 +126,7 @@ fn many_keys(alloc: Global, keys: u64) -> Result<Vec<u8>, AllocError> {
 #[test]
 fn two_workers_are_there_at_once(rt: HostRuntime) -> Result<(), Fail> {
     let alloc = rt.alloc();
-    let held = TwoAtOnce::new();
+    let held = Meeting::new();
     let status = executed(
         &rt,
         alloc,
@@ -239,7 +135,7 @@ fn two_workers_are_there_at_once(rt: HostRuntime) -> Result<(), Fail> {
         many_keys(alloc, 1_024)?,
         &held,
     )?;
-    assert!(rt; status == 0 && held.was_met(), "status {status}");
+    assert!(rt; status == 0 && held.have_met(), "status {status}");
     Ok(())
 }
 
@@ -253,10 +149,20 @@ fn blocks_of(txn: u64) -> &'static [u16] {
     }
 }
 
-fn is_each_once(passed: &Passed, txns: u64) -> bool {
+// Whether a transaction has a piece in each of these blocks that passed once.
+fn are_once(passed: &Logging, txn: u64, blocks: &[u16]) -> bool {
+    for block in blocks {
+        if passed.times(txn, *block) != 1 {
+            return false;
+        }
+    }
+    true
+}
+
+fn is_each_once(passed: &Logging, txns: u64) -> bool {
     for before in 0..txns {
         let txn = before.saturating_add(1);
-        if !passed.are_once(txn, blocks_of(txn)) {
+        if !are_once(passed, txn, blocks_of(txn)) {
             return false;
         }
     }
@@ -266,9 +172,9 @@ fn is_each_once(passed: &Passed, txns: u64) -> bool {
 #[test]
 fn one_worker_passes_with_each_piece_of_a_stress_test_once(rt: HostRuntime) -> Result<(), Fail> {
     let alloc = rt.alloc();
-    let passed = Passed::new(alloc, 256)?;
+    let passed = Logging::new(alloc, 256)?;
     let status = executed(&rt, alloc, &["stress", "64"], "1", Vec::new(alloc), &passed)?;
-    let count = passed.count.load(Ordering::SeqCst);
+    let count = passed.count();
     assert!(rt;
         status == 0 && count == 232 && is_each_once(&passed, 64),
         "status {status}"
@@ -279,8 +185,8 @@ fn one_worker_passes_with_each_piece_of_a_stress_test_once(rt: HostRuntime) -> R
 #[test]
 fn two_workers_are_there_at_once_in_a_stress_test(rt: HostRuntime) -> Result<(), Fail> {
     let alloc = rt.alloc();
-    let held = TwoAtOnce::new();
+    let held = Meeting::new();
     let status = executed(&rt, alloc, &["stress", "64"], "2", Vec::new(alloc), &held)?;
-    assert!(rt; status == 0 && held.was_met(), "status {status}");
+    assert!(rt; status == 0 && held.have_met(), "status {status}");
     Ok(())
 }

@@ -2,11 +2,14 @@
 ghost use Rattle.std.specs.Prelude.{◌≡◌, ◌+◌, ◌<◌, ℕ, Bool, true, IfOk};
 ghost use Rattle.std.specs.Coded.{coded×, coded_ℕ, coded_bool};
 
+use crate::gates::{Counters, zeros};
 use pac_base::NoMemory;
 use pac_ops::PieceId;
 use pac_workers::{Machine, Ready, Taken};
 use std::alloc::Global;
 use std::marker::Model;
+use std::sync::Arc;
+use std::sync::atomic::Ordering;
 
 /// How many chains there are, how long each is, how many turns each piece takes, and which pieces are run on the spot: each
 /// `spot_every`-th, or none for 0.
@@ -45,14 +48,17 @@ struct Chain {
     value: u64,
 }
 
-/// A piece that is handed out: where it stands, how many turns it takes, the value before it, and whether it will find no memory.
+/// A piece that is handed out: where it stands, how many turns it takes, the value before it, whether it will find no memory, and
+/// where its run is counted.
 #[derive(Drop)]
 pub struct Task {
     chain: u16,
     at: u32,
+    number: u64,
     turns: u32,
     value: u64,
     is_starved: bool,
+    runs: Counters,
 }
 
 /// A piece with the value after it.
@@ -72,6 +78,7 @@ pub struct Chains {
     is_closed: bool,
     starved: u32,
     refused: u32,
+    runs: Counters,
 }
 
 impl Model for Chains {
@@ -93,7 +100,13 @@ impl Chains {
             is_closed: true,
             starved: 0,
             refused: 0,
+            runs: Arc::new(alloc, zeros(alloc, pattern.pieces())?)?,
         })
+    }
+
+    /// How often each piece was run by a worker: one more owner of the counters.
+    pub fn runs(&self) -> Result<Counters, NoMemory> {
+        Ok(Arc::try_clone(&self.runs)?)
     }
 
     /// The next `pieces` pieces that are handed out, or run on their turn, will find no memory.
@@ -140,6 +153,11 @@ impl Chains {
             }
         }
         first
+    }
+
+    // A worker runs this piece.
+    fn count_run(&self, number: u64) {
+        count_run(&self.runs, number);
     }
 
     // The next piece of a chain is out, or isn't.
@@ -217,6 +235,7 @@ impl Machine for Chains {
         if work.is_starved {
             return Err((work, NoMemory));
         }
+        count_run(&work.runs, work.number);
         let value = value_after(work.value, work.at, work.turns);
         Ok(TaskDone { task: work, value })
     }
@@ -238,23 +257,24 @@ impl Machine for Chains {
             return Ok(Taken::NotReady);
         };
         let turns = self.pattern.turns;
-        if self.left > 0
-            && !self
-                .pattern
-                .is_handed_out(self.pattern.number(number, chain.finished))
-        {
+        let piece = self.pattern.number(number, chain.finished);
+        if self.left > 0 && !self.pattern.is_handed_out(piece) {
+            self.count_run(piece);
             self.finish_next(number, value_after(chain.value, chain.finished, turns));
             return Ok(Taken::Ran);
         }
+        let runs = self.runs()?;
         let is_starved = self.starved > 0;
         self.starved = self.starved.saturating_sub(1);
         self.set_out(number, true);
         Ok(Taken::Work(Task {
             chain: number,
             at: chain.finished,
+            number: piece,
             turns,
             value: chain.value,
             is_starved,
+            runs,
         }))
     }
 
@@ -279,6 +299,7 @@ impl Machine for Chains {
             self.starved -= 1;
             return Err(NoMemory);
         }
+        self.count_run(self.pattern.number(number, chain.finished));
         let turns = self.pattern.turns;
         self.finish_next(number, value_after(chain.value, chain.finished, turns));
         Ok(Some(PieceId {
@@ -316,6 +337,13 @@ impl Machine for Chains {
         drain_all(self.chains.as_mut_slice(), self.pattern);
         self.left = 0;
         Ok(drained)
+    }
+}
+
+// A piece is run once more.
+fn count_run(runs: &Counters, number: u64) {
+    if let Some(count) = runs.get(number as usize) {
+        count.fetch_add(1, Ordering::SeqCst);
     }
 }
 

@@ -1,5 +1,5 @@
 // Feeds of batches that are at hand.
-ghost use Rattle.std.specs.Prelude.{◌≡◌, ◌≤◌, false, true, map, IfOk};
+ghost use Rattle.std.specs.Prelude.{◌≡◌, ◌≤◌, ◌++◌, false, true, map, IfOk};
 ghost use Rattle.std.specs.VecDeque.{deque_len};
 ghost use Rattle.pac_commute.specs.Loads.{next_in_job};
 
@@ -10,7 +10,7 @@ use pac_ops::Batch;
 use pac_outside::Gate;
 use pac_plan::Plan;
 use pac_tables::{OrderedRows, Rows};
-use pac_workers::{Feed, replay_feed};
+use pac_workers::{Feed, GhostList, replay_feed};
 use std::alloc::Global;
 use std::collections::VecDeque;
 use std::sync::Wait;
@@ -22,10 +22,13 @@ pub struct BatchQueue {
     plan: Plan,
     next: u64,
     rest: VecDeque<Batch>,
+    so_far: GhostList<Batch>,
 }
 
 impl Feed for BatchQueue {
-    ghost gives = { λ _ _ _. Unit {0} };
+    ghost so_far = { λ queue. queue.so_far.items };
+
+    ghost gives = { λ old given new. new.so_far.items ≡ old.so_far.items ++ given };
 
     ghost is_over = { λ _. true };
 
@@ -44,6 +47,7 @@ impl Feed for BatchQueue {
             return None;
         }
         self.next = next;
+        self.so_far = self.so_far.with(&batch);
         Some(batch)
     }
 
@@ -63,6 +67,7 @@ pub fn two_batches(alloc: Global, plan: &Plan, is_empty: bool) -> Result<BatchQu
         plan: plan.copy(alloc)?,
         next: 1,
         rest,
+        so_far: GhostList::new(),
     })
 }
 

@@ -1,7 +1,9 @@
-//! Tests of workers, of what no clause says: that threads run, wait, wake each other and end. It has no calls of its own.
+//! Tests of workers, of what no clause says: that threads run, wait, wake each other and end.
 //!
 //! Most replay a machine of chains, in which each piece waits for the one before it; the others execute batches over a plan of
 //! one table, or hand out pieces over atomic words.
+//!
+//! [`gates`] has gates that tell who passed, for these tests and for others.
 #![tactic(auto)]
 
 #[cfg(test)]
@@ -10,8 +12,7 @@ mod chains;
 mod executions;
 #[cfg(test)]
 mod feeds;
-#[cfg(test)]
-mod gates;
+pub mod gates;
 #[cfg(test)]
 mod hand_outs;
 #[cfg(test)]

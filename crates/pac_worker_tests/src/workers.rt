@@ -7,8 +7,11 @@ use pac_base::NoMemory;
 use pac_outside::OpenGate;
 use pac_workers::replay;
 use std::alloc::Global;
+use std::sync::Wait;
+use std::sync::atomic::Ordering;
+use std::thread::Threads;
 
-// Two workers enter the gate, where there is work for both: the first waits there for the second.
+// Two workers enter the gate, where there is work for both: the first waits there until the other enters with another piece.
 #[test]
 fn two_workers_meet(rt: HostRuntime) -> Result<(), NoMemory> {
     let alloc: Global = rt.alloc();
@@ -30,7 +33,7 @@ fn two_workers_meet(rt: HostRuntime) -> Result<(), NoMemory> {
 }
 
 // The transactions and blocks of pieces, in order.
-const IN_ORDER: &[(u64, u64)] = &[
+const IN_ORDER: &[(u64, u16)] = &[
     (0, 0),
     (0, 1),
     (0, 2),
@@ -54,8 +57,7 @@ fn one_worker_order(rt: HostRuntime) -> Result<(), NoMemory> {
     };
     let gate = Logging::new(alloc, 16)?;
     let replayed = replay(&rt, alloc, 1, Chains::new(alloc, pattern)?, &gate)?;
-    let entered = gate.entered(alloc)?;
-    assert_eq!(rt; entered.as_slice(), IN_ORDER);
+    assert!(rt; gate.are(IN_ORDER));
     assert_eq!(rt; replayed.tallies.as_slice().len(), 1);
     assert_eq!(rt; sum(replayed.tallies.as_slice()), 9);
     assert_eq!(rt; replayed.drained, 0);
@@ -63,7 +65,8 @@ fn one_worker_order(rt: HostRuntime) -> Result<(), NoMemory> {
     Ok(())
 }
 
-// However many workers there are, and however heavy the pieces: each piece is run once, in the order of its chain, and is in a tally.
+// However many workers there are, and however heavy the pieces: each piece is run once, in the order of its chain, after it passed
+// the gate, and is in the tally of the worker that passed with it.
 #[test]
 fn each_piece_once(rt: HostRuntime) -> Result<(), NoMemory> {
     let alloc: Global = rt.alloc();
@@ -82,19 +85,64 @@ fn each_piece_once(rt: HostRuntime) -> Result<(), NoMemory> {
                 turns,
                 spot_every,
             };
-            let gate = Counting::new(alloc, pattern)?;
-            let replayed = replay(&rt, alloc, workers, Chains::new(alloc, pattern)?, &gate)?;
             assert!(rt;
-                gate.is_each_once(pattern, workers),
+                runs_each_once(&rt, alloc, workers, pattern)?,
                 "{workers} workers, {chains} chains of {length}"
             );
-            assert_eq!(rt; replayed.tallies.as_slice().len(), workers as usize);
-            assert_eq!(rt; sum(replayed.tallies.as_slice()), pattern.pieces());
-            assert_eq!(rt; replayed.drained, 0);
-            assert!(rt; replayed.machine.is_right());
         }
     }
     Ok(())
+}
+
+// Whether so many workers, one at least, run each piece once.
+fn runs_each_once<H: Threads + Wait + Sync>(
+    rt: &H,
+    alloc: Global,
+    workers: u32,
+    pattern: Pattern,
+) -> Result<bool, NoMemory> {
+    if workers == 0 {
+        return Ok(false);
+    }
+    let machine = Chains::new(alloc, pattern)?;
+    let runs = machine.runs()?;
+    let gate = Counting::new(alloc, pattern.chains, pattern.pieces(), workers, runs)?;
+    let replayed = replay(rt, alloc, workers, machine, &gate)?;
+    let tallies = replayed.tallies.as_slice();
+    Ok(
+        is_each_once(&gate, pattern, workers)
+            && gate.none_was_late()
+            && are_counted(&gate, pattern, tallies)
+            && tallies.len() == workers as usize
+            && sum(tallies) == pattern.pieces()
+            && replayed.drained == 0
+            && replayed.machine.is_right(),
+    )
+}
+
+// Whether each piece that `workers` workers pass the gate with entered once, and no other. One worker passes it with each piece,
+// more with those that are handed out.
+fn is_each_once(gate: &Counting, pattern: Pattern, workers: u32) -> bool {
+    let pieces = gate.pieces();
+    for at in 0..pieces.len() {
+        let passes = workers == 1 || pattern.is_handed_out(at as u64);
+        if pieces[at].load(Ordering::SeqCst) != u64::from(passes) {
+            return false;
+        }
+    }
+    true
+}
+
+// Whether each worker entered with the pieces in its tally: with all of them where none is run on the spot, else with no more.
+fn are_counted(gate: &Counting, pattern: Pattern, tallies: &[u64]) -> bool {
+    let all_enter = tallies.len() == 1 || pattern.spot_every == 0;
+    for worker in 0..tallies.len() {
+        let entered = gate.by_worker(worker as u64);
+        if entered > tallies[worker] || (all_enter && entered != tallies[worker]) {
+            return false;
+        }
+    }
+    true
 }
 
 // A worker that finds no memory, or whose result is refused, gives back what it took and ends. The others do what is left; what all
@@ -201,13 +249,12 @@ fn one_fed_worker_order(rt: HostRuntime) -> Result<(), NoMemory> {
     let alloc: Global = rt.alloc();
     let gate = Logging::new(alloc, 16)?;
     assert_eq!(rt; fed(&rt, alloc, 1, false, &gate)?, ALL_FED);
-    let entered = gate.entered(alloc)?;
-    assert_eq!(rt; entered.as_slice(), FED_IN_ORDER);
+    assert!(rt; gate.are(FED_IN_ORDER));
     Ok(())
 }
 
 // The transactions of the two batches, each in the only block.
-const FED_IN_ORDER: &[(u64, u64)] = &[(1, 0), (2, 0), (3, 0), (4, 0)];
+const FED_IN_ORDER: &[(u64, u16)] = &[(1, 0), (2, 0), (3, 0), (4, 0)];
 
 // The numbers, added up.
 fn sum(numbers: &[u64]) -> u64 {

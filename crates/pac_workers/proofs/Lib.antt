@@ -1,4 +1,3 @@
-mod Feeds
 mod LoadedOne
 mod Showing
 mod TwinKeeps

@@ -1,5 +1,5 @@
 -- What a twin tells once a batch is loaded.
-use Rattle.std.proofs.Common.{◌≡◌, ℕ, ◌+◌, Bool, true, false, List, length, Result, Ok, Err, refl, sym, ap, ◌∙◌, subst, true≢false}
+use Rattle.std.proofs.Common.{◌≡◌, ℕ, ◌+◌, Bool, false, List, length, Result, Ok, Err, refl, sym, ap, ◌∙◌, subst, true≢false}
 use Rattle.std.specs.Prelude.{OnOk, is_err}
 use Rattle.pac_value.specs.declared.values.Ty.{Ty}
 use Rattle.pac_ops.specs.declared.batch.Batch.{Batch}

@@ -10,9 +10,13 @@ use pac_ops::Batch;
 
 /// Gives batches, one after another, whose numbers run on.
 ///
-/// It keeps none of them: that in between two of its states it gave some batches is a relation, of which its type says what it tells.
+/// What it gave so far is a list of which it need keep nothing: it may be a [`GhostList`](crate::GhostList). What else is known of it
+/// between two of its states is a relation, of which its type says what it tells.
 pub trait Feed {
-    // from one state to another it gave these batches
+    // the batches that it gave so far, in order
+    ghost so_far: { Self → List ABatch };
+
+    // what is known between two of its states, from one to the other of which it gave these batches
     ghost gives: { Self → List ABatch → Self → Type 0 };
 
     // whether its last answer was that no more come
@@ -31,6 +35,8 @@ pub trait Feed {
 
     /// The next batch. `None`: none come, or none can be given.
     fn next(&mut self) -> Option<Batch>
+        ensures adds { IfSome result (λ batch. so_far self.new ≡ so_far self.old ++ batch ∷ []) }
+        ensures adds_none { IfNone result (so_far self.new ≡ so_far self.old) }
         ensures given { IfSome result (λ batch. (from : Self) (batches : List ABatch) → gives from batches self.old → gives from (batches ++ batch ∷ []) self.new) }
         ensures none { IfNone result ((from : Self) (batches : List ABatch) → gives from batches self.old → gives from batches self.new) }
         ensures over { IfNone result (is_over self.new ≡ true) }

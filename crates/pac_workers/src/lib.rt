@@ -5,7 +5,7 @@
 //! - [`replay`]: finishes a machine by a number of workers, and returns it as [`Replayed`], with the number of pieces that each
 //!   worker finished and the number of those that were left by all.
 //! - [`replay_feed`]: the same while the caller's thread loads into it what a [`Feed`] gives. A machine that can be loaded is one
-//!   that [`Loads`].
+//!   that [`Loads`]. A feed says which batches it gave so far; it may keep them as a [`GhostList`], which has no bytes.
 //!
 //! ```
 //! use pac_outside::OpenGate;
@@ -42,6 +42,7 @@
 
 mod feed;
 mod feeding;
+mod ghost_list;
 mod guarded;
 mod hand;
 mod machine;
@@ -51,5 +52,6 @@ mod twins;
 mod worker;
 
 pub use feed::Feed;
+pub use ghost_list::GhostList;
 pub use machine::{Loads, Machine, Ready, Taken};
 pub use threads::{Replayed, replay, replay_feed};

@@ -5,8 +5,6 @@ ghost use Rattle.pac_sets.specs.SetOrder.{set_cmp};
 ghost use Rattle.pac_sets.specs.Sets.{AreLeft};
 
 use super::plan_code;
-use pac_base::Listed;
-use pac_interface::{Interface, interfaces};
 use pac_keys::PlanCode;
 use pac_script::BANK;
 use pac_sets::{Kept, SetId, Sets};
@@ -15,7 +13,7 @@ use std::alloc::Global;
 
 // A procedure, a block, its inputs there, and its outputs. Parameters come first, and then the
 // variables of the operations in their order, that of a condition too.
-type Row = (usize, usize, &'static [u16], &'static [u16]);
+type Row = (u16, u16, &'static [u16], &'static [u16]);
 
 const INTERFACES: &[Row] = &[
     (0, 0, &[0], &[2]),
@@ -28,27 +26,13 @@ const INTERFACES: &[Row] = &[
     (1, 5, &[2], &[]),
 ];
 
-fn interface_is_so(interfaces: &[Listed<Interface>], row: &Row) -> bool {
-    let Some(of_proc) = interfaces.get(row.0) else {
+fn interface_is_so(code: &PlanCode, row: &Row) -> bool {
+    let plan = code.plan();
+    if row.0 >= plan.procs() || row.1 >= plan.blocks() {
         return false;
-    };
-    match of_proc.as_slice().get(row.1) {
-        Some(interface) => interface.inputs.as_slice() == row.2
-            && interface.outputs.as_slice() == row.3,
-        None => false,
     }
-}
-
-fn interfaces_are_so(alloc: Global, code: &PlanCode) -> bool {
-    let Ok(interfaces) = interfaces(alloc, code) else {
-        return false;
-    };
-    for row in INTERFACES {
-        if !interface_is_so(&interfaces, row) {
-            return false;
-        }
-    }
-    true
+    let interface = code.interface(row.0, row.1);
+    interface.inputs.as_slice() == row.2 && interface.outputs.as_slice() == row.3
 }
 
 // A question for the first open set from an offset on, and its answer; or a set that is finished.
@@ -159,7 +143,7 @@ fn bank_code(alloc: Global) -> Option<PlanCode> {
 
 fn bank_interfaces(alloc: Global) -> bool {
     match bank_code(alloc) {
-        Some(code) => interfaces_are_so(alloc, &code),
+        Some(code) => INTERFACES.iter().all(|row| interface_is_so(&code, row)),
         None => false,
     }
 }

@@ -39,7 +39,7 @@ access-requires-clause-inputs c =
     let least = c.requires.first in let last = c.requires.last in let all = c.requires.inputs.all in
     let at_txn = slice_get_read c.args.loaded.now.batch.txns (length c.args.loaded.now.batch.txns) i c.index-items-i.result refl (omega (arith, least, last)) (c.index-items-i.is ∙ ap (λ xs. get_or xs i c.index-items-i.result) c.items.ensures.value) in
     let at_kept = slice_get_read c.args.loaded.now.kept.items (length c.args.loaded.now.kept.items) i c.index.result.now refl (omega (arith, least, last, all)) c.index.ensures in
-    subst (λ (parts : PlanParts). HasTxnInputs parts c.args.block c.index-items-i.result c.find.new.env) (sym c.code.ensures)
+    subst (λ (parts : PlanParts). HasTxnInputs parts c.args.block c.index-items-i.result c.find.new.env) (sym c.get.ensures)
     (c.requires.inputs.each i c.index-items-i.result c.index.result.now c.find.new.env at_txn at_kept c.in_ok-find.ensures)
 
 pub returns : goal.returns
@@ -49,6 +49,6 @@ returns c =
     let at_txn = slice_get_read c.args.loaded.now.batch.txns (length c.args.loaded.now.batch.txns) i c.index-items-i.result refl (omega (arith, least, last)) (c.index-items-i.is ∙ ap (λ xs. get_or xs i c.index-items-i.result) c.items.ensures.value) in
     let at_kept = slice_get_read c.args.loaded.now.kept.items (length c.args.loaded.now.kept.items) i c.index.result.now refl (omega (arith, least, last, all)) c.index.ensures in
     ok_over c.access.result _ _
-    (ap (λ (parts : PlanParts). access_of (piece_ops parts c.args.block c.index-items-i.result) c.find.new.env) c.code.ensures
+    (ap (λ (parts : PlanParts). access_of (piece_ops parts c.args.block c.index-items-i.result) c.find.new.env) c.get.ensures
     ∙ over_is c.args.plan.now c.args.loaded.now c.args.block c.args.txn c.index-items-i.result c.index.result.now c.find.new.env at_txn at_kept c.in_ok-find.ensures)
     c.access.ensures

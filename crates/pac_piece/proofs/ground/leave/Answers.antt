@@ -8,7 +8,7 @@ use Rattle.pac_tables.specs.Written.{is_written}
 use Rattle.pac_piece.specs.declared.ground.Ground.{Ground}
 use Rattle.pac_piece.specs.Changes.{is_at}
 use Rattle.pac_piece.specs.InPlace.{IsLeft}
-use Rattle.pac_piece.proofs.LeaveLemmas.{absent_there, ends-either, found_at, none-left, none_found, put-either, put-left, stands_there}
+use Rattle.pac_piece.proofs.LeaveLemmas.{absent_there, ends-either, state_found, none-left, none_found, put-either, put-left, stands_there}
 use Rattle.pac_piece.proofs.StepLemmas.{on_ok}
 use Rattle.pac_piece.proofs.ground.leave.Goals as goal
 
@@ -16,7 +16,7 @@ pub returns-then-is_some-clause-keeps : goal.returns-then-is_some-clause-keeps
 returns-then-is_some-clause-keeps g c =
     let cell : Cell = (c.args.table, c.args.key) in
     let old = c.args.ground.now in
-    let there = found_at cell old.frame.writes.items c.find.result (ap (position (is_at cell)) (sym c.deref.ensures.value) ∙ sym c.find.ensures) (sym c.is_some.ensures ∙ c.if-is_some.true) in
+    let there = state_found cell old.frame.writes.items c.find.result (ap (position (is_at cell)) (sym c.deref.ensures.value) ∙ sym c.find.ensures) (sym c.is_some.ensures ∙ c.if-is_some.true) in
     ends-either g.R.Rows.held g.R.Rows.tables cell old _ c.requires.stands c.args.row refl refl c.change.result c.change.ensures.ok c.change.ensures.err c.requires.there (c.requires.stands.placed cell there)
 
 pub returns-in-Some-clause-keeps : goal.returns-in-Some-clause-keeps

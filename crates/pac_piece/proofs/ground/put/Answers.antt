@@ -6,7 +6,7 @@ use Rattle.pac_tables.specs.declared.writes.Write.{Write}
 use Rattle.pac_tables.specs.Written.{written}
 use Rattle.pac_tables.specs.Room.{IsReady}
 use Rattle.pac_tables.proofs.WriteLemmas.{written-last}
-use Rattle.pac_piece.specs.InPlace.{HaveRoom}
+use Rattle.pac_piece.specs.InPlace.{HaveCellRoom}
 use Rattle.pac_piece.proofs.PlaceLemmas.{put-back, room-kept, before-kept}
 use Rattle.pac_piece.proofs.ground.put.Goals as goal
 
@@ -22,6 +22,6 @@ returns-clause-room g c = λ room.
     let t = g.R.Rows.held c.args.rows.now in
     let n = g.R.Rows.tables c.args.rows.now in
     let olds = c.args.olds.now.items in
-    subst (λ m. HaveRoom m (g.R.Rows.held c.exchange.new.rows) c.push_reserved.new.self.items) (sym c.in_ok-old.ensures.tables)
+    subst (λ m. HaveCellRoom m (g.R.Rows.held c.exchange.new.rows) c.push_reserved.new.self.items) (sym c.in_ok-old.ensures.tables)
     (room-kept t (c.args.table, c.args.key.now) c.args.row (g.R.Rows.held c.exchange.new.rows) olds c.push_reserved.new.self.items c.in_ok-old.old
     c.in_ok-old.ensures.ok c.in_ok-old.ensures.old (c.push_reserved.ensures.items ∙ ap (λ (ws : List Write). ws ++ c.in_ok-old.old ∷ []) c.reserve.ensures.items) n c.requires.there room)

@@ -22,7 +22,7 @@ pub returns-in-Some-clause-log_damage : goal.returns-in-Some-clause-log_damage
 returns-in-Some-clause-log_damage g c = λ at kind is.
     let end = c.execute_feed-executed.new.feed.end in
     let given = c.execute_feed-executed.ensures.given in
-    let of_log = given-from (g.D.Disk.known c.args.disk.now) _ _ c.args.reader.now.gate _ _ given.0 _ end (λ i. g.D.Disk.known (c.new-feed.ensures.disk i).now) (λ i. (c.new-feed.ensures.reader i).now.gate) c.new-feed.ensures.end given.1.4 in
+    let of_log = given-from (g.D.Disk.known c.args.disk.now) _ _ c.args.reader.now.gate _ _ given.0 _ end (λ i. g.D.Disk.known (c.new-feed.ensures.disk i).now) (λ i. (c.new-feed.ensures.reader i).now.gate) c.new-feed.ensures.end given.1.known.4 in
     let cause : c.in-Some.cause ≡ error.Damaged at kind = log-cause c.in-Some.cause at kind (sym c.from.ensures ∙ the-error _ c.from.result (load.Damaged (Log at kind)) refl is) in
     let refusal : refusal_of end ≡ Some (error.Damaged at kind) = sym c.refusal.ensures ∙ c.in-Some.is ∙ ap (λ e. Some e) cause in
     refused-damage (g.D.Disk.known c.args.disk.now) _ c.args.reader.now.gate _ given.0 end of_log at kind refusal
@@ -49,10 +49,10 @@ returns-clause-window g c =
     let outcome = ap outcome_of c.execution_of.ensures
     ∙ gives procs c.in_ok-plan.plan.programs replays c.txns-first.result w.batches c.args.tables.rows _ executed.tables executed.first_note w.tables_are w.note_is
     ∙ ap (λ n. serial procs (n + 1) (txns_in w.batches) c.args.tables.rows) number in
-    let of_log = given-from known _ (g.D.Disk.known feed.disk.now) old _ feed.reader.now.gate w.batches _ feed.end (λ i. g.D.Disk.known (c.new-feed.ensures.disk i).now) (λ i. (c.new-feed.ensures.reader i).now.gate) c.new-feed.ensures.end w.given.4 in
+    let of_log = given-from known _ (g.D.Disk.known feed.disk.now) old _ feed.reader.now.gate w.batches _ feed.end (λ i. g.D.Disk.known (c.new-feed.ensures.disk i).now) (λ i. (c.new-feed.ensures.reader i).now.gate) c.new-feed.ensures.end w.given.known.4 in
     let missing = c.new-feed.result.missing in
     let some : 1 ≤ missing = let is = c.new-feed.ensures.missing in omega (arith, c.requires.bytes, is) in
-    let bodies = subst (λ (e : Option FeedEnd). AreBodiesCounted missing feed.missing w.batches e feed.end) c.new-feed.ensures.end w.given.2 in
+    let bodies = subst (λ (e : Option FeedEnd). AreBodiesCounted missing feed.missing w.batches e feed.end) c.new-feed.ensures.end w.given.known.2 in
     let whole : refusal_of feed.end ≡ None = sym c.refusal.ensures ∙ c.in_default.is in
     let window = executed-window known (g.D.Disk.known feed.disk.now) procs old feed.reader.now.gate c.args.tables.rows c.execution_of.result w.batches missing feed.missing some feed.end of_log bodies c.in_ok-executed.ensures.over whole outcome in
     let last = subst (λ (b : Bool). IsExecutedWindow known procs old feed.reader.now.gate c.args.tables.rows c.execution_of.result b) (sym c.is_at_end.ensures) window in

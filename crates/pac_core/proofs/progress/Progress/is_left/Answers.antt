@@ -24,7 +24,7 @@ returns c = (
   (λ u.
       let set = u.1 in
       let inside : set.block < c.args.self.now.pieces.blocks = c.requires.blocks u.0 _ u.3 in
-      let blocks : c.blocks-block-end.result ≡ c.args.self.now.pieces.blocks = c.blocks-block-end.ensures ∙ ap (λ (p : PlanParts). p.blocks) (c.plan.ensures ∙ c.code.ensures) in
+      let blocks : c.blocks-block-end.result ≡ c.args.self.now.pieces.blocks = c.blocks-block-end.ensures ∙ ap (λ (p : PlanParts). p.blocks) (c.plan.ensures ∙ c.get.ensures) in
       let end = c.loop-block-test.false in
       let lt : set.block < c.loop-block.block = omega (arith, inside, blocks, end) in
       absurd (c.loop-block.invariant set u.4 lt (u.0, u.2, u.3))),

@@ -28,4 +28,4 @@ returns g c =
     (subst (λ (b : List Batch). IsTrue c.are_batches.result ↔ (map (λ (one : LoadedBatch). one.batch) c.deref.result.now ≡ b)) c.as_slice.ensures c.are_batches.ensures) in
     subst (λ (r : Replay). IfOk c.has_opening.result (λ is. IsTrue is ↔ IsOfJob r job.plan job.first (g.R.Rows.tables job.opening) (g.R.Rows.held job.opening) job.batches)) c.self.view_is
     (by_answer p c.self.inside.rows c.self.invariant job.plan job.first (g.R.Rows.tables job.opening) (g.R.Rows.held job.opening) job.batches
-    (sym (c.plan.ensures ∙ c.code.ensures) ∙ c.are_same_plans.ensures.0 c.if-not-are_same_plans.false) c.if-self-job.false (same.0 c.if-not-are_batches.false) c.has_opening.result c.has_opening.ensures.each)
+    (sym (c.plan.ensures ∙ c.get.ensures) ∙ c.are_same_plans.ensures.0 c.if-not-are_same_plans.false) c.if-self-job.false (same.0 c.if-not-are_batches.false) c.has_opening.result c.has_opening.ensures.each)

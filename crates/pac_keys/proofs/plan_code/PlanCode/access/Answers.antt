@@ -25,14 +25,14 @@ pub probed-requires : goal.probed-requires
 probed-requires c =
     let self = c.args.self.now in
     subst (λ (probes : List Probe). AllByRecursion (CanProbe c.args.env.now) probes) (sym (c.as_slice.ensures ∙ ap (λ (piece : PieceCode). piece.probes) c.piece-piece.ensures))
-    (call_keys self (subst (λ (parts : PlanParts). IsPlan parts) c.self.view_is c.is_plan.ensures) c.in-Call.call c.args.block c.args.env.now
+    (call_keys self (subst (λ (parts : PlanParts). IsPlan parts) c.plan.ensures c.is_plan.ensures) c.in-Call.call c.args.block c.args.env.now
     (subst (λ (txn : Txn). TxnFitsPlan self txn) c.in-Call.is c.requires.fits)
     (subst (λ (txn : Txn). HasTxnInputs self c.args.block txn c.args.env.now) c.in-Call.is c.requires.inputs))
 
 pub record_touches-requires : goal.record_touches-requires
 record_touches-requires c =
-    subst (λ (records : List Change). RecordsFit c.self.inside.plan.tables records) (sym c.items.ensures.value)
-    (subst (λ (parts : PlanParts). RecordsFit parts.tables c.in-AdHoc.records) (sym c.self.view_is)
+    subst (λ (records : List Change). RecordsFit c.plan-in-AdHoc.result.now.tables records) (sym c.items.ensures.value)
+    (subst (λ (parts : PlanParts). RecordsFit parts.tables c.in-AdHoc.records) (sym c.plan-in-AdHoc.ensures)
     (subst (λ (txn : Txn). TxnFitsPlan c.args.self.now txn) c.in-AdHoc.is c.requires.fits))
 
 pub returns-in-Call : goal.returns-in-Call
@@ -48,7 +48,7 @@ pub returns-in_ok-touches-in-AdHoc : goal.returns-in_ok-touches-in-AdHoc
 returns-in_ok-touches-in-AdHoc c =
     let self = c.args.self.now in
     ap Keys (c.listed.ensures ∙ c.in_ok-touches-in-AdHoc.ensures
-    ∙ ap (λ (parts : PlanParts). map change_touch (records_in parts c.args.block c.items.result.now)) c.self.view_is
+    ∙ ap (λ (parts : PlanParts). map change_touch (records_in parts c.args.block c.items.result.now)) c.plan-in-AdHoc.ensures
     ∙ ap (λ (records : List Change). map change_touch (records_in self c.args.block records)) c.items.ensures.value)
     ∙ sym (adhoc-access self c.args.block c.in-AdHoc.records c.args.env.now)
     ∙ ap (λ (txn : Txn). access_of (piece_ops self c.args.block txn) c.args.env.now) (sym c.in-AdHoc.is)

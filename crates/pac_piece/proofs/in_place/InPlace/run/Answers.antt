@@ -5,7 +5,7 @@ use Rattle.pac_plan.specs.Codes.{code_ops}
 use Rattle.pac_tables.specs.declared.writes.Write.{Write}
 use Rattle.pac_tables.specs.Written.{written}
 use Rattle.pac_piece.specs.Frames.{after_ops}
-use Rattle.pac_piece.specs.InPlace.{Place, found_at, state_here}
+use Rattle.pac_piece.specs.InPlace.{Place, state_found, state_here}
 use Rattle.pac_piece.specs.Sources.{HaveTables}
 use Rattle.pac_piece.specs.Values.{CanRunCode}
 use Rattle.pac_piece.proofs.LeaveLemmas.{on_err}
@@ -18,8 +18,8 @@ run_piece-requires-clause-can g c =
     let held = g.R.Rows.held in
     let old = c.args.self.now in
     let ground = c.self.inside.ground in
-    let found : found_at old ≡ state_here held ground =
-    ap found_at (sym c.self.view_is) ∙ ap (λ (ws : List Write). record { env = ground.frame.env; tables = written (held ground.rows) ws }) (sym c.self.invariant.writes) in
+    let found : state_found old ≡ state_here held ground =
+    ap state_found (sym c.self.view_is) ∙ ap (λ (ws : List Write). record { env = ground.frame.env; tables = written (held ground.rows) ws }) (sym c.self.invariant.writes) in
     subst (λ (s : State). CanRunCode c.args.code.now s) found (runnable c.args.piece.block c.args.code.now old.values old.tables c.requires.runnable)
 
 pub run_piece-requires-clause-there : goal.run_piece-requires-clause-there
@@ -33,8 +33,8 @@ returns-clause-err g c =
     let held = g.R.Rows.held in
     let old = c.args.self.now in
     let ground = c.self.inside.ground in
-    let found : found_at old ≡ state_here held ground =
-    ap found_at (sym c.self.view_is) ∙ ap (λ (ws : List Write). record { env = ground.frame.env; tables = written (held ground.rows) ws }) (sym c.self.invariant.writes) in
+    let found : state_found old ≡ state_here held ground =
+    ap state_found (sym c.self.view_is) ∙ ap (λ (ws : List Write). record { env = ground.frame.env; tables = written (held ground.rows) ws }) (sym c.self.invariant.writes) in
     on_err c.run_piece.result (λ stops same. record {
       tables = same.0 ∙ ap (λ (p : Place). p.tables) c.self.view_is;
       note = same.1 ∙ ap (λ (p : Place). p.note) c.self.view_is;

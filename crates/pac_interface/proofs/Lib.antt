@@ -1,3 +1,0 @@
-pub mod VariableLemmas
-pub mod PushLemmas
-pub mod OutputLemmas

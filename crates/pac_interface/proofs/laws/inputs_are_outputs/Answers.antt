@@ -1,6 +1,0 @@
--- It holds of all plans.
-use Rattle.pac_interface.proofs.OutputLemmas.{inputs_are_outputs}
-use Rattle.pac_interface.proofs.laws.inputs_are_outputs.Goals as goal
-
-pub returns : goal.returns
-returns c = inputs_are_outputs
