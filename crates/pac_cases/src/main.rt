@@ -14,6 +14,7 @@ mod step;
 mod sweep;
 mod table;
 mod text;
+mod workers;
 
 use pac_outside::{Failed, Stream, write_all};
 use runner::run_file;

@@ -2,20 +2,36 @@
 use crate::call::{Ending, call};
 use crate::report::{Location, compare, compare_lines, push_end};
 use crate::runner::Runner;
+use crate::workers::{arguments_of, calls_of};
 use std::alloc::{AllocError, Global};
 use std::sync::Wait;
 use std::thread::Threads;
 
-/// Runs the step that has been read. Returns whether it ended and wrote as expected.
+/// Runs the step that has been read, with each number of workers that it asks for. Returns whether it ended and wrote as expected.
 pub fn run_step<'a, RT: Threads + Wait + Sync>(
     rt: &RT,
     alloc: Global,
     runner: &mut Runner<'a>,
 ) -> Result<bool, AllocError> {
+    let (shared, calls) = calls_of(runner.arguments);
+    let mut passed = true;
+    for added in calls {
+        let arguments = arguments_of(alloc, shared, added)?;
+        passed = run_once(rt, alloc, runner, &arguments)? && passed;
+    }
+    Ok(passed)
+}
+
+fn run_once<'a, RT: Threads + Wait + Sync>(
+    rt: &RT,
+    alloc: Global,
+    runner: &mut Runner<'a>,
+    arguments: &str,
+) -> Result<bool, AllocError> {
     call(
         rt,
         alloc,
-        runner.arguments,
+        arguments,
         &runner.input,
         &mut runner.devices,
         runner.faults,

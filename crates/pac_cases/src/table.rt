@@ -4,6 +4,7 @@ use crate::device::{change, copies_of};
 use crate::report::{Location, compare, push_whole};
 use crate::runner::Runner;
 use crate::text::push_text;
+use crate::workers::{arguments_of, calls_of};
 use std::alloc::{AllocError, Global};
 use std::sync::Wait;
 use std::thread::Threads;
@@ -46,25 +47,41 @@ fn read_row<'a>(line: &'a str, arguments: &'a str) -> Option<Row<'a>> {
     }
 }
 
-/// Runs a row on copies of the devices. Returns whether it can be read and its changes are possible.
+/// Runs a row on copies of the devices, with each number of workers that it asks for. Returns whether it can be read and its changes
+/// are possible.
 pub fn run_row<'a, RT: Threads + Wait + Sync>(
     rt: &RT,
     alloc: Global,
     runner: &mut Runner<'a>,
     line: &str,
 ) -> Result<bool, AllocError> {
-    match read_row(line, runner.arguments) {
-        Some(row) => run_copies(rt, alloc, runner, row),
-        None => Ok(false),
+    let Some(row) = read_row(line, runner.arguments) else {
+        return Ok(false);
+    };
+    let (shared, calls) = calls_of(row.arguments);
+    let mut passed = true;
+    for added in calls {
+        let arguments = arguments_of(alloc, shared, added)?;
+        let row = Row {
+            arguments: &arguments,
+            ..row
+        };
+        match run_copies(rt, alloc, runner, row)? {
+            Some(is_as_expected) => passed = passed && is_as_expected,
+            None => return Ok(false),
+        }
     }
+    runner.record(passed);
+    Ok(true)
 }
 
+// Whether a row ended as expected. `None`: its changes aren't possible.
 fn run_copies<'a, RT: Threads + Wait + Sync>(
     rt: &RT,
     alloc: Global,
     runner: &mut Runner<'a>,
     row: Row<'_>,
-) -> Result<bool, AllocError> {
+) -> Result<Option<bool>, AllocError> {
     let mut devices = copies_of(alloc, &runner.devices)?;
     run_on(rt, alloc, runner, row, &mut devices)
 }
@@ -75,9 +92,9 @@ fn run_on<'a, RT: Threads + Wait + Sync>(
     runner: &mut Runner<'a>,
     row: Row<'_>,
     devices: &mut Vec<Vec<u8>>,
-) -> Result<bool, AllocError> {
+) -> Result<Option<bool>, AllocError> {
     if !change_all(alloc, devices, row.changes)? {
-        return Ok(false);
+        return Ok(None);
     }
     call_row(rt, alloc, runner, row, devices)?;
     let location = runner.location();
@@ -88,8 +105,7 @@ fn run_on<'a, RT: Threads + Wait + Sync>(
         row.end,
         &runner.outcome,
     )?;
-    runner.record(passed);
-    Ok(true)
+    Ok(Some(passed))
 }
 
 fn call_row<'a, RT: Threads + Wait + Sync>(
