@@ -35,6 +35,8 @@ pub enum Part {
     Execute(Held),
     Pieces(Depth),
     Queue { pieces: u16 },
+    HandToOne,
+    HandToFour,
     Replay,
 }
 
@@ -71,6 +73,8 @@ impl Part {
             "pairs" => Some(Part::Pieces(Depth::Pairs)),
             "queue" => Some(Part::Queue { pieces: 1_024 }),
             "long_queue" => Some(Part::Queue { pieces: 2_048 }),
+            "hand_one" => Some(Part::HandToOne),
+            "hand_four" => Some(Part::HandToFour),
             "many_limited" => Some(Part::over(100_000, Some(1_000_000))),
             "replay" => Some(Part::Replay),
             _ => None,
@@ -89,7 +93,7 @@ impl Part {
             Part::Graph(_) => "blocks",
             Part::Commit(_) | Part::Execute(_) | Part::Pieces(Depth::Txns) => "transactions",
             Part::Save => "rows",
-            Part::Pieces(Depth::Sets) => "pieces",
+            Part::Pieces(Depth::Sets) | Part::HandToOne | Part::HandToFour => "pieces",
             Part::Pieces(Depth::Accesses) => "accesses",
             Part::Pieces(Depth::Pairs) | Part::Queue { .. } => "pairs",
         }
