@@ -21,14 +21,14 @@ use Rattle.pac_entry.specs.EntryReading.{next_cell, next_change}
 use Rattle.pac_entry.proofs.ChangeLemmas.{AreFewTables, change_codec}
 use Rattle.pac_tuple.specs.declared.fault.ImageFaultKind.TheVariants.{Tag, TooMany, Order}
 use Rattle.pac_tuple.specs.declared.images.TheConstants.{MAX_IMAGES}
-use Rattle.pac_tuple.specs.Images.{image_cell, is_above, AscendAfter, AreImagesOf, images_bytes}
+use Rattle.pac_tuple.specs.Images.{image_cell, is_cell_above, AscendAfter, AreTxnImagesOf, images_bytes}
 use Rattle.pac_tuple.specs.ImageReading.{image_byte, image_number, next_image, next_ascending, counted_images, next_images}
 use Rattle.pac_tuple.specs.Kinds.{image_fault_at, as_short_image, as_image_fault}
 use Rattle.pac_tuple.proofs.CellLemmas.{cell_read}
 
 -- a record of the tables at a cell above the last one
 abbrev IsNext : List Table → Option Cell → Change → Type 0
-IsNext tables last c = IsTrue (is_above last (image_cell c)) × IsRecord tables c
+IsNext tables last c = IsTrue (is_cell_above last (image_cell c)) × IsRecord tables c
 
 image_codec : (tables : List Table) → AreFewTables tables → (last : Option Cell) → IsCodec (IsNext tables last) change_bytes (next_image tables last)
 unfolding next_image
@@ -38,8 +38,8 @@ image_codec tables few last = record {
       let cell = cell_read tables (record { at = at; bytes = change_bytes c ++ more }) (record { at = at + length (change_bytes c); bytes = more }) c whole in
       rw (cell.1, fits.0, whole) refl;
   found = λ s c t are e.
-      let steps = bind_ok (reported_as as_image_fault (next_cell tables s)) (λ cell. cond (is_above last cell.0) (reported_as as_image_fault (next_change tables s)) (Err (image_fault_at Order (s.at + 3)))) (c, t) e in
-      let above = true_ok (is_above last steps.0.0) (image_fault_at Order (s.at + 3)) (reported_as as_image_fault (next_change tables s)) (c, t) steps.2 in
+      let steps = bind_ok (reported_as as_image_fault (next_cell tables s)) (λ cell. cond (is_cell_above last cell.0) (reported_as as_image_fault (next_change tables s)) (Err (image_fault_at Order (s.at + 3)))) (c, t) e in
+      let above = true_ok (is_cell_above last steps.0.0) (image_fault_at Order (s.at + 3)) (reported_as as_image_fault (next_change tables s)) (c, t) steps.2 in
       let read = reported_as_ok as_image_fault (next_change tables s) (c, t) above.1 in
       let is = (change_codec tables few).found s c t are read in
       let cell = cell_read tables s t c read in
@@ -49,7 +49,7 @@ image_codec tables few last = record {
       record {
         bytes = is.bytes;
         offset = is.offset;
-        form = (subst (λ (x : Cell). IsTrue (is_above last x)) (sym one) above.0, is.form);
+        form = (subst (λ (x : Cell). IsTrue (is_cell_above last x)) (sym one) above.0, is.form);
       };
 }
 
@@ -129,13 +129,13 @@ image_number_codec = reported_again _ _ (next_uint w16) as_short_image (uint_cod
 abbrev counted_bytes : List Change → List ℕ
 counted_bytes cs = to_le_bytes w16 (length cs) ++ flat_map change_bytes cs
 
-counted_codec : (tables : List Table) → AreFewTables tables → IsCodec (AreImagesOf tables) counted_bytes (counted_images tables)
+counted_codec : (tables : List Table) → AreFewTables tables → IsCodec (AreTxnImagesOf tables) counted_bytes (counted_images tables)
 unfolding counted_images
 counted_codec tables few = same _ _ _ _ _
     (λ cs h. (h, omega (arith, h.0.0)))
     (λ cs h. h.0)
     (λ cs h. refl)
-    (seq (λ cs. length cs) (λ n. n < 65536) (to_le_bytes w16) image_number (AreImagesOf tables) (λ cs. flat_map change_bytes cs)
+    (seq (λ cs. length cs) (λ n. n < 65536) (to_le_bytes w16) image_number (AreTxnImagesOf tables) (λ cs. flat_map change_bytes cs)
     (λ at n s. cond (ltb MAX_IMAGES n) (Err (image_fault_at TooMany at)) (next_ascending tables None n s))
     image_number_codec
     (λ at n lt. either _ _ (ltb MAX_IMAGES n) (λ s. Err (image_fault_at TooMany at)) (next_ascending tables None n)
@@ -152,13 +152,13 @@ counted_codec tables few = same _ _ _ _ _
     few_images : (n : ℕ) (cs : List Change) → n ≤ MAX_IMAGES → length cs ≡ n → length cs ≤ MAX_IMAGES
     few_images n cs most is = omega (arith, most, is)
 
-pub images_codec : (tables : List Table) → AreFewTables tables → IsCodec (AreImagesOf tables) images_bytes (next_images tables)
+pub images_codec : (tables : List Table) → AreFewTables tables → IsCodec (AreTxnImagesOf tables) images_bytes (next_images tables)
 unfolding next_images
 images_codec tables few = same _ _ _ _ _
     (λ cs h. (h, omega arith))
     (λ cs h. h.0)
     (λ cs h. refl)
-    (seq (λ (cs : List Change). 3) IsByte one_byte image_byte (AreImagesOf tables) counted_bytes
+    (seq (λ (cs : List Change). 3) IsByte one_byte image_byte (AreTxnImagesOf tables) counted_bytes
     (λ at tag s. cond (eqb tag 3) (counted_images tables s) (Err (image_fault_at Tag at)))
     image_byte_codec
     (λ at tag lt. either _ _ (eqb tag 3) (counted_images tables) (λ s. Err (image_fault_at Tag at))

@@ -15,7 +15,7 @@ use Rattle.pac_tuple.specs.declared.fault.ImageFault.{ImageFault}
 use Rattle.pac_entry.specs.declared.fault.EntryFault.{EntryFault}
 use Rattle.pac_entry.specs.EntryReading.{next_cell, next_change}
 use Rattle.pac_tuple.specs.declared.fault.ImageFaultKind.TheVariants.{Order}
-use Rattle.pac_tuple.specs.Images.{image_cell, is_above, AscendAfter}
+use Rattle.pac_tuple.specs.Images.{image_cell, is_cell_above, AscendAfter}
 use Rattle.pac_tuple.specs.Kinds.{image_fault_at, as_image_fault}
 use Rattle.pac_tuple.proofs.CellLemmas.{cell_read}
 use Rattle.pac_tuple.specs.ImageReading.{next_image, next_ascending}
@@ -50,17 +50,17 @@ module _ (tables : List Table) where
       sym so_far ∙ one
 
 -- the image that is read is above the last cell
-above_read : (tables : List Table) (last : Option Cell) (s t : Rest) (c : Change) → next_image tables last s ≡ Ok (c, t) → IsTrue (is_above last (image_cell c))
+above_read : (tables : List Table) (last : Option Cell) (s t : Rest) (c : Change) → next_image tables last s ≡ Ok (c, t) → IsTrue (is_cell_above last (image_cell c))
 unfolding next_image
 above_read tables last s t c e =
-    let steps = bind_ok (reported_as as_image_fault (next_cell tables s)) (λ cell. cond (is_above last cell.0) (reported_as as_image_fault (next_change tables s)) (Err (image_fault_at Order (s.at + 3)))) (c, t) e in
-    let above = true_ok (is_above last steps.0.0) (image_fault_at Order (s.at + 3)) (reported_as as_image_fault (next_change tables s)) (c, t) steps.2 in
+    let steps = bind_ok (reported_as as_image_fault (next_cell tables s)) (λ cell. cond (is_cell_above last cell.0) (reported_as as_image_fault (next_change tables s)) (Err (image_fault_at Order (s.at + 3)))) (c, t) e in
+    let above = true_ok (is_cell_above last steps.0.0) (image_fault_at Order (s.at + 3)) (reported_as as_image_fault (next_change tables s)) (c, t) steps.2 in
     let read = reported_as_ok as_image_fault (next_change tables s) (c, t) above.1 in
     let cell = cell_read tables s t c read in
     let here : next_cell tables s ≡ Ok steps.0 = reported_as_ok as_image_fault (next_cell tables s) steps.0 steps.1 in
     let same_cell : ◌≡◌ {A = Cell × Rest} (image_cell c, cell.0) steps.0 = ok_same {F = EntryFault} (image_cell c, cell.0) steps.0 (sym cell.1 ∙ here) in
     let one : image_cell c ≡ steps.0.0 = ap (λ (p : Cell × Rest). p.0) same_cell in
-    subst (λ (x : Cell). IsTrue (is_above last x)) (sym one) above.0
+    subst (λ (x : Cell). IsTrue (is_cell_above last x)) (sym one) above.0
 
 -- what is read ascends after the last cell, and is as many
 ascending_read : (tables : List Table) (n : ℕ) (last : Option Cell) (s t : Rest) (cs : List Change) → next_ascending tables last n s ≡ Ok (cs, t) → AscendAfter last cs × (length cs ≡ n)

@@ -12,7 +12,7 @@ use Rattle.pac_entry.specs.EntryReading.{next_cell, next_change}
 use Rattle.pac_tuple.specs.declared.fault.ImageFault.{ImageFault}
 use Rattle.pac_tuple.specs.declared.fault.ImageFaultKind.TheVariants.{Tag, TooMany, Order}
 use Rattle.pac_tuple.specs.declared.images.TheConstants.{MAX_IMAGES}
-use Rattle.pac_tuple.specs.Images.{image_cell, is_above}
+use Rattle.pac_tuple.specs.Images.{image_cell, is_cell_above}
 use Rattle.pac_tuple.specs.Kinds.{image_fault_at, as_short_image, as_image_fault}
 
 -- the tag
@@ -27,7 +27,7 @@ image_number s = reported_as as_short_image (next_uint w16 s)
 -- key stands after the tag and the table's number.
 unfoldable pub next_image : List Table → Option Cell → Rest → Result (Change × Rest) ImageFault
 next_image tables last s = reported_as as_image_fault (next_cell tables s)
-    >>= λ cell. if is_above last cell.0 then reported_as as_image_fault (next_change tables s) else Err (image_fault_at Order (s.at + 3))
+    >>= λ cell. if is_cell_above last cell.0 then reported_as as_image_fault (next_change tables s) else Err (image_fault_at Order (s.at + 3))
 
 -- that many records, the first after the last cell and each after the one before
 unfoldable pub next_ascending : List Table → Option Cell → ℕ → Rest → Result (List Change × Rest) ImageFault

@@ -21,22 +21,22 @@ image_row (Put table key row) = Some row
 image_row (Delete table key) = None
 
 -- the cell is above the last one, where there was one
-abbrev pub is_above : Option Cell → Cell → Bool
-is_above None cell = true
-is_above (Some last) cell = is_lt (cell_cmp last cell)
+abbrev pub is_cell_above : Option Cell → Cell → Bool
+is_cell_above None cell = true
+is_cell_above (Some last) cell = is_lt (cell_cmp last cell)
 
 -- each cell is above the one before, and the first above the last one, where there was one
 abbrev pub AscendAfter : Option Cell → List Change → Type 0
 AscendAfter last [] = Unit {0}
-AscendAfter last (image ∷ images) = IsTrue (is_above last (image_cell image)) × AscendAfter (Some (image_cell image)) images
+AscendAfter last (image ∷ images) = IsTrue (is_cell_above last (image_cell image)) × AscendAfter (Some (image_cell image)) images
 
 -- images that a transaction may leave: few of them, each at a cell of its own, in the order of the cells
-abbrev pub AreImages : List Change → Type 0
-AreImages images = (length images ≤ MAX_IMAGES) × AscendAfter None images
+abbrev pub AreTxnImages : List Change → Type 0
+AreTxnImages images = (length images ≤ MAX_IMAGES) × AscendAfter None images
 
 -- images of these tables that have bytes
-abbrev pub AreImagesOf : List Table → List Change → Type 0
-AreImagesOf tables images = AreImages images × AllByRecursion (IsRecord tables) images
+abbrev pub AreTxnImagesOf : List Table → List Change → Type 0
+AreTxnImagesOf tables images = AreTxnImages images × AllByRecursion (IsRecord tables) images
 
 -- a list is the tag 3, the number of images, and the images as records
 abbrev pub images_bytes : List Change → List ℕ

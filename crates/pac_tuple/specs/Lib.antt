@@ -3,3 +3,4 @@ pub mod Images
 pub mod ImageReading
 pub mod Laying
 pub mod AfterImages
+pub mod Shares

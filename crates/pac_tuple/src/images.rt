@@ -15,9 +15,9 @@ pub struct TxnImagesRule;
 impl Rule for TxnImagesRule {
     type Item = Change;
 
-    ghost use Rattle.pac_tuple.specs.Images.{AreImages};
+    ghost use Rattle.pac_tuple.specs.Images.{AreTxnImages};
 
-    ghost holds = { AreImages };
+    ghost holds = { AreTxnImages };
 }
 
 /// The after-images of transactions, a list for each of them.

@@ -3,6 +3,7 @@
 //! - [`TxnImages`]: the after-images of one transaction. [`Images`]: those of many, a list for each.
 //! - [`write_images`]: appends the bytes of a list. [`images_at`], [`read_images`]: the list at an offset, or the first
 //!   fault from the left, an [`ImageFault`] of one of six [`ImageFaultKind`]s.
+//! - [`lay`]: lays lists over the rows of tables, by so many workers, whose number makes no difference.
 //! - [`after_images_laid_are_serial_execution`]: a law, that laying the after-images of transactions gives what executing
 //!   them gives.
 //!
@@ -11,12 +12,19 @@
 //! line by line with the faults; `proofs/ImageLemmas.antt` shows that they agree. Bytes after a list are not looked at.
 //! `specs/AfterImages.antt` says what the after-images of a transaction are: the cells that its executed operations write,
 //! each with what stands there once it has ended. `specs/Laying.antt` says what laying lists makes of the tables.
+//!
+//! [`lay`] cuts the cells into shares by a hash of their table and key (`specs/Shares.antt`). A worker finds, for each cell of
+//! its share, the last image, and what it answers is a map that says so; so whichever thread has found it, the maps of all
+//! shares together are the lists (`proofs/LayLemmas.antt`). That several threads have worked is not said.
 #![tactic(auto)]
 
 mod fault;
 mod images;
+mod last;
 mod laws;
+mod laying;
 mod reading;
+mod share;
 #[cfg(test)]
 mod tests;
 mod writing;
@@ -24,5 +32,6 @@ mod writing;
 pub use fault::{ImageError, ImageFault, ImageFaultKind};
 pub use images::{Images, MAX_IMAGES, TxnImages, TxnImagesRule};
 pub use laws::after_images_laid_are_serial_execution;
+pub use laying::lay;
 pub use reading::{images_at, read_images};
 pub use writing::write_images;

@@ -5,8 +5,9 @@ ghost use Rattle.pac_base.specs.Refusals.{Reports};
 ghost use Rattle.pac_bytes.specs.Reading.{from, reported_as};
 ghost use Rattle.pac_bytes.specs.Readers.{Answers, AnswersUnlessMemory, Finds, FindsSpelledUnlessMemory};
 ghost use Rattle.pac_entry.specs.EntryReading.{next_cell, next_change};
-ghost use Rattle.pac_tuple.specs.Images.{image_cell, images_bytes, is_above as stands_above, AscendAfter, AreImagesOf};
+ghost use Rattle.pac_tuple.specs.Images.{image_cell, images_bytes, is_cell_above as stands_above, AscendAfter, AreTxnImagesOf};
 ghost use Rattle.pac_tuple.specs.ImageReading.{image_byte, image_number, next_image, next_ascending, counted_images, next_images, ReadsOneList};
+ghost use Rattle.pac_tuple.specs.Laying.{AreLaidWithin};
 ghost use Rattle.pac_tuple.specs.Kinds.{image_fault_at, as_image_fault};
 
 use crate::fault::image_fault;
@@ -35,7 +36,9 @@ pub fn read_images(
     at: usize,
     images: &mut Images,
 ) -> Result<usize, ImageError>
-    ensures { ReadsOneList cat.now.tables bytes.now at images.old images.new result }
+    ensures one { ReadsOneList cat.now.tables bytes.now at images.old images.new result }
+    // It is in the tables of the catalogue.
+    ensures within { AreLaidWithin (length cat.now.tables) images.old → AreLaidWithin (length cat.now.tables) images.new }
 {
     let (list, end) = images_at(alloc, cat, bytes, at)?;
     images.push(list)?;
@@ -65,9 +68,9 @@ pub fn images_at(
     // It is what reading gives, or the first fault.
     ensures exact { AnswersUnlessMemory bytes.now result (next_images cat.now.tables (from bytes.now at)) }
     // What is found is written so, and fits the tables.
-    ensures found { Finds (AreImagesOf cat.now.tables) images_bytes bytes.now at result }
+    ensures found { Finds (AreTxnImagesOf cat.now.tables) images_bytes bytes.now at result }
     // What fits the tables and is written so is found, whatever follows.
-    ensures again { FindsSpelledUnlessMemory (AreImagesOf cat.now.tables) images_bytes bytes.now at result }
+    ensures again { FindsSpelledUnlessMemory (AreTxnImagesOf cat.now.tables) images_bytes bytes.now at result }
 {
     let _tables = cat.tables();
     list_at(alloc, cat, bytes, at)
