@@ -3,15 +3,10 @@ ghost use Rattle.std.specs.Prelude.{◌≤◌};
 
 use crate::recoveries::{THREE_LINES, is_stored};
 use crate::replays::no_devices;
-use pac_core::execute_feed;
-use pac_global::catalogue_plan;
-use pac_keys::PlanCode;
 use pac_log::LogReader;
 use pac_outside::{Devices, MemDisk, OpenGate};
-use pac_plan::Shared;
 use pac_recover::{FeedEnd, LogFeed, recover_by_windows};
 use pac_report::dump;
-use pac_tables::HashedRows;
 use pac_workers::{Feed, GhostList};
 use std::alloc::Global;
 use std::sync::Wait;
@@ -70,74 +65,6 @@ fn a_log_is_fed_window_by_window(rt: HostRuntime) -> Result<(), Fail> {
     for (window, expected) in ROWS {
         let is = are_windows(alloc, &mut devices.log, *window, expected);
         assert!(rt; is, "windows of {window} bytes");
-    }
-    Ok(())
-}
-
-// How many pieces `workers` workers finish of what the next window of `window` bytes has, and how many were drained after them. The
-// rows of earlier windows don't change that: each begins with no rows.
-fn counts_in<H: Threads + Wait + Sync>(
-    rt: &H,
-    alloc: Global,
-    workers: u32,
-    window: u64,
-    reader: &mut LogReader,
-    log: &mut MemDisk,
-) -> Option<(u64, u64)>
-    requires workers { 1 ≤ workers }
-    requires window { 1 ≤ window }
-{
-    let plan = catalogue_plan(alloc, reader.gate().catalogue()).ok()?;
-    let rows = HashedRows::new(alloc, plan.tables()).ok()?;
-    let first = reader.gate().txns() + 1;
-    let plan = Shared::new(alloc, PlanCode::new(alloc, plan).ok()?).ok()?;
-    let mut so_far = GhostList::new();
-    let mut feed = LogFeed::new(reader, log, &mut so_far, window);
-    let executed = execute_feed(rt, alloc, workers, plan, first, rows, &mut feed, &OpenGate).ok()?;
-    let finished = executed
-        .tallies
-        .as_slice()
-        .iter()
-        .fold(0, |sum: u64, tally| sum.saturating_add(*tally));
-    Some((finished, executed.drained))
-}
-
-// Whether these numbers of pieces are finished, window by window, and none is drained.
-fn are_finished<H: Threads + Wait + Sync>(
-    rt: &H,
-    alloc: Global,
-    workers: u32,
-    window: u64,
-    log: &mut MemDisk,
-    expected: &[u64],
-) -> bool {
-    let Ok(mut reader) = LogReader::attach(alloc, log) else {
-        return false;
-    };
-    if workers == 0 || window == 0 {
-        return false;
-    }
-    for pieces in expected {
-        if counts_in(rt, alloc, workers, window, &mut reader, log) != Some((*pieces, 0)) {
-            return false;
-        }
-    }
-    true
-}
-
-// A deposit and a transfer have four pieces each, a record has one.
-const PIECES: &[(u64, &[u64])] = &[(1, &[4, 1, 4, 0]), (50, &[5, 4]), (101, &[9, 0])];
-
-#[test]
-fn workers_finish_each_piece_of_each_window(rt: HostRuntime) -> Result<(), Fail> {
-    let alloc = rt.alloc();
-    let mut devices = no_devices(alloc);
-    assert!(rt; is_stored(&rt, alloc, THREE_LINES.as_bytes(), &mut devices)?);
-    for workers in [1u32, 2, 4, 16] {
-        for (window, expected) in PIECES {
-            let is = are_finished(&rt, alloc, workers, *window, &mut devices.log, expected);
-            assert!(rt; is, "{workers} workers, windows of {window} bytes");
-        }
     }
     Ok(())
 }
