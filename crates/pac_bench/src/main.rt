@@ -36,6 +36,8 @@ use pac_outside::{FileDisk, Stream};
 use part::{Part, PartError};
 use std::env::Env;
 use std::process::ExitCode;
+use std::sync::Wait;
+use std::thread::Threads;
 use std::{env, io};
 
 const USAGE: &str =
@@ -50,7 +52,12 @@ fn asked(words: &[String]) -> Option<(Part, u32)> {
 }
 
 // Runs a part for a number of rounds; returns how much was done.
-fn make(rt: &HostRuntime, part: Part, rounds: u32) -> Result<u64, PartError> {
+fn make<H: Threads + Wait + Sync>(
+    rt: &HostRuntime,
+    threads: &H,
+    part: Part,
+    rounds: u32,
+) -> Result<u64, PartError> {
     let alloc = rt.alloc();
     let mut disk = FileDisk::new(rt, "pac_bench.log"); // nothing is opened yet
     match part {
@@ -69,8 +76,8 @@ fn make(rt: &HostRuntime, part: Part, rounds: u32) -> Result<u64, PartError> {
         Part::Execute(held) => rows::execute(alloc, held, rounds),
         Part::Pieces(depth) => pieces::make(alloc, depth, rounds),
         Part::Queue { pieces } => pieces::queue(alloc, pieces, rounds),
-        Part::HandToOne => hand::make(rt, alloc, 1, rounds),
-        Part::HandToFour => hand::make(rt, alloc, 4, rounds),
+        Part::HandToOne => hand::make(threads, alloc, 1, rounds),
+        Part::HandToFour => hand::make(threads, alloc, 4, rounds),
         Part::Replay => serial::replay(alloc, &mut Stream::new(rt.stdin()), rounds),
     }
 }
@@ -81,7 +88,7 @@ fn main(rt: HostRuntime) -> io::Result<ExitCode> {
         eprintln!(rt; "{USAGE}")?;
         return Ok(ExitCode::FAILURE);
     };
-    match make(&rt, part, rounds) {
+    match make(&rt, &rt, part, rounds) {
         Ok(count) => {
             println!(rt; "{count} {}", part.unit())?;
             Ok(ExitCode::SUCCESS)
