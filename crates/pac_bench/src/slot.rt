@@ -34,7 +34,7 @@ pub fn save<'a, R: Files<File = File>>(
     if !can_be_saved(&rows) {
         return Err(PartError::Refused);
     }
-    let mut slots = Slots::attach(alloc, &cat, a, b)?;
+    let mut slots = Slots::read(alloc, &cat, a, b)?;
     slots.save(alloc, &cat, &rows, 0, 0, a, b)?;
     Ok(u64::from(count))
 }

@@ -1,5 +1,5 @@
 -- A checkpoint is a codec.
-use Rattle.std.proofs.Common.{◌≡◌, ◌∙◌, ℕ, zero, suc, ◌+◌, ◌<◌, ◌^◌, Bool, true, false, cond, ◌&&◌, eqb, List, [], ◌∷◌, ◌++◌, length, take, drop, Option, Some, None, Ok, Err, refl, sym, ap, ap₂, subst, arith}
+use Rattle.std.proofs.Common.{◌≡◌, ◌∙◌, ℕ, zero, suc, ◌+◌, ◌<◌, ◌^◌, Bool, true, false, cond, ◌&&◌, eqb, List, [], ◌∷◌, ◌++◌, length, take, drop, Option, Some, None, Result, Ok, Err, refl, sym, ap, ap₂, subst, arith, append_assoc}
 use Rattle.std.specs.Prelude.{pos, nat_eq}
 use Rattle.std.specs.List.{flat_map, AllByRecursion, AllZip}
 use Rattle.std.specs.Int.{w16, w64, to_le_bytes}
@@ -23,10 +23,14 @@ use Rattle.pac_bytes.proofs.Numbers.{uint_codec, width16, width64}
 use Rattle.pac_bytes.proofs.TypedLemmas.{key_codec, values_codec}
 use Rattle.pac_check.specs.declared.damage.SlotDamageKind.TheVariants.{Magic, Range, Order}
 use Rattle.pac_check.specs.declared.damage.SlotFault.{SlotFault}
+use Rattle.pac_outside.specs.declared.devices.LogName.{LogName}
+use Rattle.pac_outside.specs.declared.devices.LogName.TheVariants.{Log, LogB}
 use Rattle.pac_check.specs.declared.head.Head.{Head}
+use Rattle.pac_check.specs.declared.head.SlotForm.{SlotForm}
+use Rattle.pac_check.specs.declared.head.SlotForm.TheVariants.{First, Later}
 use Rattle.pac_check.specs.Kinds.{slot_fault, as_slot_fault, of_typed}
-use Rattle.pac_check.specs.Checkpoints.{KeyedRow, Checkpoint, checkpoint_name, head_bytes, keyed_bytes, rows_bytes, checkpoint_bytes, is_above, AreAscending, IsKeyedRow, IsRowAfter, AreRowsOf, IsHead, IsCheckpoint}
-use Rattle.pac_check.specs.CheckpointReading.{slot_number, next_name, next_count, next_head, next_row, next_rows, next_table, next_checkpoint}
+use Rattle.pac_check.specs.Checkpoints.{KeyedRow, Checkpoint, checkpoint_name, front_bytes, head_bytes, is_later, segment_byte, segment_bytes, keyed_bytes, rows_bytes, checkpoint_bytes, is_above, AreAscending, IsKeyedRow, IsRowAfter, AreRowsOf, IsHead, IsCheckpoint}
+use Rattle.pac_check.specs.CheckpointReading.{slot_number, next_name, next_form, next_count, next_front, next_head, next_row, next_rows, next_table, next_checkpoint}
 
 -- ---- the head
 
@@ -41,26 +45,92 @@ same_bytes (x ∷ xs) (y ∷ ys) h = go (λ rest. same_bytes xs ys rest) (eqb x 
     go others true e rest = ap₂ (λ (n : ℕ) (ns : List ℕ). n ∷ ns) (eqb-true _ _ e) (others rest)
     go others false e rest = absurd cc
 
-abbrev IsName : List ℕ → Type 0
-IsName bytes = bytes ≡ checkpoint_name
+-- one name isn't the other
+other_name : pointwise nat_eq (checkpoint_name true) (checkpoint_name false) ≡ false
+other_name = refl
 
-name_codec : IsCodec IsName (λ bytes. bytes) next_name
-name_codec = record {
-  again = λ x at more is. subst (λ (w : List ℕ). next_name (record { at = at; bytes = w ++ more }) ≡ Ok (w, record { at = at + length w; bytes = more })) (sym is)
-      (rw (take_at checkpoint_name more 8 refl, drop_at checkpoint_name more 8 refl) refl);
-  found = λ s x t are e.
-      let test = true_ok (pointwise nat_eq (take 8 s.bytes) checkpoint_name) (slot_fault Magic s.at) (Ok (checkpoint_name, advanced 8 s)) (x, t) e in
-      let both : (checkpoint_name, advanced 8 s) ≡ (x, t) = ok_same {F = SlotFault} (checkpoint_name, advanced 8 s) (x, t) test.1 in
-      let words : take 8 s.bytes ≡ checkpoint_name = same_bytes (take 8 s.bytes) checkpoint_name test.0 in
-      subst (λ (p : List ℕ × Rest). IsAtStart IsName (λ bytes. bytes) s p.0 p.1) both
-      (record { bytes = sym (take-append-drop 8 s.bytes) ∙ ap (λ (w : List ℕ). w ++ drop 8 s.bytes) words; offset = refl; form = refl });
-}
+name_codec : IsCodec (λ later. Unit {0}) checkpoint_name next_name
+name_codec = record { again = λ x at more is. again x at more; found = λ s x t are e. found s x t e }
+  where
+    again : (x : Bool) (at : ℕ) (more : List ℕ) → next_name (record { at = at; bytes = checkpoint_name x ++ more }) ≡ Ok (x, record { at = at + length (checkpoint_name x); bytes = more })
+    again false at more = refl
+    again true at more = refl
+
+    there : (s : Rest) (later x : Bool) (t : Rest) → take 8 s.bytes ≡ checkpoint_name later → ◌≡◌ {A = Result (Bool × Rest) SlotFault} (Ok (later, advanced 8 s)) (Ok (x, t)) → IsAtStart (λ later. Unit {0}) checkpoint_name s x t
+    there s later x t words e =
+        let both : (later, advanced 8 s) ≡ (x, t) = ok_same {F = SlotFault} (later, advanced 8 s) (x, t) e in
+        subst (λ (p : Bool × Rest). IsAtStart (λ later. Unit {0}) checkpoint_name s p.0 p.1) both
+        (record { bytes = sym (take-append-drop 8 s.bytes) ∙ ap (λ (w : List ℕ). w ++ drop 8 s.bytes) words; offset = offset later; form = tt })
+      where
+        offset : (later : Bool) → s.at + 8 ≡ s.at + length (checkpoint_name later)
+        offset false = refl
+        offset true = refl
+
+    found : (s : Rest) (x : Bool) (t : Rest) → next_name s ≡ Ok (x, t) → IsAtStart (λ later. Unit {0}) checkpoint_name s x t
+    found s x t e = go (pointwise nat_eq (take 8 s.bytes) (checkpoint_name false)) refl (pointwise nat_eq (take 8 s.bytes) (checkpoint_name true)) refl e
+      where
+        go : (b : Bool) → pointwise nat_eq (take 8 s.bytes) (checkpoint_name false) ≡ b → (c : Bool) → pointwise nat_eq (take 8 s.bytes) (checkpoint_name true) ≡ c
+            → ◌≡◌ {A = Result (Bool × Rest) SlotFault} (cond b (Ok (false, advanced 8 s)) (cond c (Ok (true, advanced 8 s)) (Err (slot_fault Magic s.at)))) (Ok (x, t)) → IsAtStart (λ later. Unit {0}) checkpoint_name s x t
+        go true is c other h = there s false x t (same_bytes (take 8 s.bytes) (checkpoint_name false) is) h
+        go false is true other h = there s true x t (same_bytes (take 8 s.bytes) (checkpoint_name true) other) h
+        go false is false other h = absurd cc
 
 -- the name is there by a test of what stands at an offset
-pub name_there : (bytes rest : List ℕ) (at : ℕ) → rest ≡ drop at bytes → pointwise nat_eq (take 8 rest) checkpoint_name ≡ true → next_name (from bytes at) ≡ Ok (checkpoint_name, from bytes (at + 8))
+pub name_there : (bytes rest : List ℕ) (at : ℕ) → rest ≡ drop at bytes → pointwise nat_eq (take 8 rest) (checkpoint_name false) ≡ true → next_name (from bytes at) ≡ Ok (false, from bytes (at + 8))
 name_there bytes rest at is test =
-    let here : pointwise nat_eq (take 8 (drop at bytes)) checkpoint_name ≡ true = subst (λ (l : List ℕ). pointwise nat_eq (take 8 l) checkpoint_name ≡ true) is test in
+    let here : pointwise nat_eq (take 8 (drop at bytes)) (checkpoint_name false) ≡ true = subst (λ (l : List ℕ). pointwise nat_eq (take 8 l) (checkpoint_name false) ≡ true) is test in
     rw (here, drop-drop 8 at bytes) refl
+
+pub later_there : (bytes rest : List ℕ) (at : ℕ) → rest ≡ drop at bytes → pointwise nat_eq (take 8 rest) (checkpoint_name true) ≡ true → next_name (from bytes at) ≡ Ok (true, from bytes (at + 8))
+later_there bytes rest at is test =
+    let here : pointwise nat_eq (take 8 (drop at bytes)) (checkpoint_name true) ≡ true = subst (λ (l : List ℕ). pointwise nat_eq (take 8 l) (checkpoint_name true) ≡ true) is test in
+    let words : take 8 (drop at bytes) ≡ checkpoint_name true = same_bytes (take 8 (drop at bytes)) (checkpoint_name true) here in
+    let none : pointwise nat_eq (take 8 (drop at bytes)) (checkpoint_name false) ≡ false = ap (λ (w : List ℕ). pointwise nat_eq w (checkpoint_name false)) words ∙ other_name in
+    rw (none, here, drop-drop 8 at bytes) refl
+
+pub no_name : (bytes rest : List ℕ) (at : ℕ) → rest ≡ drop at bytes → pointwise nat_eq (take 8 rest) (checkpoint_name false) ≡ false → pointwise nat_eq (take 8 rest) (checkpoint_name true) ≡ false → next_name (from bytes at) ≡ Err (slot_fault Magic at)
+no_name bytes rest at is first second =
+    let one : pointwise nat_eq (take 8 (drop at bytes)) (checkpoint_name false) ≡ false = subst (λ (l : List ℕ). pointwise nat_eq (take 8 l) (checkpoint_name false) ≡ false) is first in
+    let two : pointwise nat_eq (take 8 (drop at bytes)) (checkpoint_name true) ≡ false = subst (λ (l : List ℕ). pointwise nat_eq (take 8 l) (checkpoint_name true) ≡ false) is second in
+    rw (one, two) refl
+
+-- the form, after its name
+form_codec : (later : Bool) → IsCodec (λ form. is_later form ≡ later) segment_bytes (next_form later)
+form_codec false = record { again = λ x at more is. again x at more is; found = λ s x t are e. found s x t e }
+  where
+    again : (x : SlotForm) (at : ℕ) (more : List ℕ) → is_later x ≡ false → next_form false (record { at = at; bytes = segment_bytes x ++ more }) ≡ Ok (x, record { at = at + length (segment_bytes x); bytes = more })
+    again First at more is = ap (λ (n : ℕ). the_first n) (omega arith)
+      where
+        the_first : ℕ → Result (SlotForm × Rest) SlotFault
+        the_first n = Ok (First, record { at = n; bytes = more })
+    again (Later segment) at more is = absurd cc
+
+    found : (s : Rest) (x : SlotForm) (t : Rest) → ◌≡◌ {A = Result (SlotForm × Rest) SlotFault} (Ok (First, s)) (Ok (x, t)) → IsAtStart (λ form. is_later form ≡ false) segment_bytes s x t
+    found s x t e =
+        let both : (First, s) ≡ (x, t) = ok_same {F = SlotFault} (First, s) (x, t) e in
+        subst (λ (p : SlotForm × Rest). IsAtStart (λ form. is_later form ≡ false) segment_bytes s p.0 p.1) both (record { bytes = refl; offset = omega arith; form = refl })
+form_codec true = record { again = λ x at more is. again x at more is; found = λ s x t are e. found s.at s.bytes x t e }
+  where
+    again : (x : SlotForm) (at : ℕ) (more : List ℕ) → is_later x ≡ true → next_form true (record { at = at; bytes = segment_bytes x ++ more }) ≡ Ok (x, record { at = at + length (segment_bytes x); bytes = more })
+    again First at more is = absurd cc
+    again (Later Log) at more is = refl
+    again (Later LogB) at more is = refl
+
+    there : (at b : ℕ) (bs : List ℕ) (segment : LogName) (x : SlotForm) (t : Rest) → b ≡ segment_byte segment → ◌≡◌ {A = Result (SlotForm × Rest) SlotFault} (Ok (Later segment, record { at = at + 1; bytes = bs })) (Ok (x, t)) → IsAtStart (λ form. is_later form ≡ true) segment_bytes (record { at = at; bytes = b ∷ bs }) x t
+    there at b bs segment x t is e =
+        let both : (Later segment, record { at = at + 1; bytes = bs }) ≡ (x, t) = ok_same {F = SlotFault} (Later segment, record { at = at + 1; bytes = bs }) (x, t) e in
+        subst (λ (p : SlotForm × Rest). IsAtStart (λ form. is_later form ≡ true) segment_bytes (record { at = at; bytes = b ∷ bs }) p.0 p.1) both (record { bytes = ap (λ (n : ℕ). n ∷ bs) is; offset = refl; form = refl })
+
+    found : (at : ℕ) (bytes : List ℕ) (x : SlotForm) (t : Rest) → next_form true (record { at = at; bytes = bytes }) ≡ Ok (x, t) → IsAtStart (λ form. is_later form ≡ true) segment_bytes (record { at = at; bytes = bytes }) x t
+    found at [] x t e = absurd cc
+    found at (b ∷ bs) x t e = go (eqb b 0) refl (eqb b 1) refl e
+      where
+        go : (c : Bool) → eqb b 0 ≡ c → (d : Bool) → eqb b 1 ≡ d
+            → ◌≡◌ {A = Result (SlotForm × Rest) SlotFault} (cond c (Ok (Later Log, record { at = at + 1; bytes = bs })) (cond d (Ok (Later LogB, record { at = at + 1; bytes = bs })) (Err (slot_fault Range at)))) (Ok (x, t))
+            → IsAtStart (λ form. is_later form ≡ true) segment_bytes (record { at = at; bytes = b ∷ bs }) x t
+        go true is d other h = there at b bs Log x t (eqb-true _ _ is) h
+        go false is true other h = there at b bs LogB x t (eqb-true _ _ other) h
+        go false is false other h = absurd cc
 
 wide_codec : IsCodec (λ n. n < 2 ^ 64) (to_le_bytes w64) (slot_number w64)
 wide_codec = reported_again _ _ (next_uint w64) as_slot_fault (uint_codec w64 (2 ^ 64) width64)
@@ -79,63 +149,87 @@ count_codec tables few = same _ _ _ _ (next_count tables)
     (λ right. same _ _ _ _ _ (λ n h. h.1) (λ n e. (e ∙ eqb-true _ _ right, e)) (λ n h. refl) (ended count))
     (λ wrong. never _ _ (λ s. slot_fault Range at) (λ n h. eqb-false _ _ wrong (sym h.1 ∙ h.0)))))
 
-abbrev the_head : ℕ → ℕ → Head
-the_head txns place = record { txns = txns; place = place }
+abbrev the_head : ℕ → ℕ → SlotForm → Head
+the_head txns place form = record { txns = txns; place = place; form = form }
 
-module _ (tables : ℕ) (few : tables < 65536) where
-  -- a head with these numbers
-  head_is : (txns place : ℕ) (head : Head) → head.txns ≡ txns → head.place ≡ place → head ≡ the_head txns place
-  head_is txns place head t p = ap₂ (λ (a b : ℕ). the_head a b) t p
+-- a head with these numbers and this form
+head_is : (txns place : ℕ) (form : SlotForm) (head : Head) → head.txns ≡ txns → head.place ≡ place → head.form ≡ form → head ≡ the_head txns place form
+head_is txns place form head t p f = ap₂ (λ (a b : ℕ). the_head a b head.form) t p ∙ ap (λ (g : SlotForm). the_head txns place g) f
 
-  after_place : (txns place : ℕ) → txns < 2 ^ 64 → place < 2 ^ 64 → IsCodec (λ head. (IsHead head × (head.txns ≡ txns)) × (head.place ≡ place)) (λ head. to_le_bytes w16 tables) (λ s. next_count tables s >>= λ count. Ok (the_head txns place, count.1))
-  after_place txns place small_txns small_place = same _ _ _ _ _
-      (λ head h. (h, refl))
-      (λ head h. h.0)
-      (λ head h. append-nil (to_le_bytes w16 tables))
-      (seq (λ head. tables) (λ n. n ≡ tables) (to_le_bytes w16) (next_count tables) (λ head. (IsHead head × (head.txns ≡ txns)) × (head.place ≡ place)) (λ head. []) (λ at n s. Ok (the_head txns place, s))
-      (count_codec tables few)
-      (λ at n is. same _ _ _ _ _
-      (λ head h. head_is txns place head h.0.0.1 h.0.1)
-      (λ head e. (((subst IsHead (sym e) (record { txns = small_txns; place = small_place }), ap (λ (x : Head). x.txns) e), ap (λ (x : Head). x.place) e), sym is))
-      (λ head h. refl)
-      (ended (the_head txns place))))
+abbrev IsNamed : Bool → Head → Type 0
+IsNamed later head = IsHead head × (is_later head.form ≡ later)
 
-  after_txns : (txns : ℕ) → txns < 2 ^ 64 → IsCodec (λ head. IsHead head × (head.txns ≡ txns)) (λ head. to_le_bytes w64 head.place ++ to_le_bytes w16 tables)
-      (λ s. slot_number w64 s >>= λ place. next_count tables place.1 >>= λ count. Ok (the_head txns place.0, count.1))
-  after_txns txns small = same _ _ _ _ _
-      (λ head h. (h, h.0.place))
-      (λ head h. h.0)
-      (λ head h. refl)
-      (seq (λ head. head.place) (λ n. n < 2 ^ 64) (to_le_bytes w64) (slot_number w64) (λ head. IsHead head × (head.txns ≡ txns)) (λ head. to_le_bytes w16 tables)
-      (λ at place s. next_count tables s >>= λ count. Ok (the_head txns place, count.1))
-      wide_codec
-      (λ at place lt. after_place txns place small lt))
+front_after_place : (later : Bool) (txns place : ℕ) → txns < 2 ^ 64 → place < 2 ^ 64 → IsCodec (λ head. (IsNamed later head × (head.txns ≡ txns)) × (head.place ≡ place)) (λ head. segment_bytes head.form) (λ s. next_form later s >>= λ form. Ok (the_head txns place form.0, form.1))
+front_after_place later txns place small_txns small_place = same _ _ _ _ _
+    (λ head h. (h, h.0.0.1))
+    (λ head h. h.0)
+    (λ head h. append-nil (segment_bytes head.form))
+    (seq (λ head. head.form) (λ form. is_later form ≡ later) segment_bytes (next_form later) (λ head. (IsNamed later head × (head.txns ≡ txns)) × (head.place ≡ place)) (λ head. []) (λ at form s. Ok (the_head txns place form, s))
+    (form_codec later)
+    (λ at form is. same _ _ _ _ _
+    (λ head h. head_is txns place form head h.0.0.1 h.0.1 h.1)
+    (λ head e. ((((subst IsHead (sym e) (record { txns = small_txns; place = small_place }), ap (λ (x : Head). is_later x.form) e ∙ is), ap (λ (x : Head). x.txns) e), ap (λ (x : Head). x.place) e), ap (λ (x : Head). x.form) e))
+    (λ head h. refl)
+    (ended (the_head txns place form))))
 
-  after_name : IsCodec IsHead (λ head. to_le_bytes w64 head.txns ++ (to_le_bytes w64 head.place ++ to_le_bytes w16 tables))
-      (λ s. slot_number w64 s >>= λ txns. slot_number w64 txns.1 >>= λ place. next_count tables place.1 >>= λ count. Ok (the_head txns.0 place.0, count.1))
-  after_name = same _ _ _ _ _
-      (λ head h. (h, h.txns))
-      (λ head h. h.0)
-      (λ head h. refl)
-      (seq (λ head. head.txns) (λ n. n < 2 ^ 64) (to_le_bytes w64) (slot_number w64) IsHead (λ head. to_le_bytes w64 head.place ++ to_le_bytes w16 tables)
-      (λ at txns s. slot_number w64 s >>= λ place. next_count tables place.1 >>= λ count. Ok (the_head txns place.0, count.1))
-      wide_codec
-      (λ at txns lt. after_txns txns lt))
+front_after_txns : (later : Bool) (txns : ℕ) → txns < 2 ^ 64 → IsCodec (λ head. IsNamed later head × (head.txns ≡ txns)) (λ head. to_le_bytes w64 head.place ++ segment_bytes head.form)
+    (λ s. slot_number w64 s >>= λ place. next_form later place.1 >>= λ form. Ok (the_head txns place.0 form.0, form.1))
+front_after_txns later txns small = same _ _ _ _ _
+    (λ head h. (h, h.0.0.place))
+    (λ head h. h.0)
+    (λ head h. refl)
+    (seq (λ head. head.place) (λ n. n < 2 ^ 64) (to_le_bytes w64) (slot_number w64) (λ head. IsNamed later head × (head.txns ≡ txns)) (λ head. segment_bytes head.form)
+    (λ at place s. next_form later s >>= λ form. Ok (the_head txns place form.0, form.1))
+    wide_codec
+    (λ at place lt. front_after_place later txns place small lt))
 
-  pub head_codec : IsCodec IsHead (head_bytes tables) (next_head tables)
-  unfolding next_head
-  head_codec = same _ _ _ _ _
-      (λ head h. (h, refl))
-      (λ head h. h.0)
-      (λ head h. refl)
-      (seq (λ head. checkpoint_name) IsName (λ bytes. bytes) next_name IsHead (λ head. to_le_bytes w64 head.txns ++ (to_le_bytes w64 head.place ++ to_le_bytes w16 tables))
-      (λ at name s. slot_number w64 s >>= λ txns. slot_number w64 txns.1 >>= λ place. next_count tables place.1 >>= λ count. Ok (the_head txns.0 place.0, count.1))
-      name_codec
-      (λ at name is. same _ _ _ _ _
-      (λ head h. h.0)
-      (λ head h. (h, sym is))
-      (λ head h. refl)
-      after_name))
+front_after_name : (later : Bool) → IsCodec (IsNamed later) (λ head. to_le_bytes w64 head.txns ++ (to_le_bytes w64 head.place ++ segment_bytes head.form))
+    (λ s. slot_number w64 s >>= λ txns. slot_number w64 txns.1 >>= λ place. next_form later place.1 >>= λ form. Ok (the_head txns.0 place.0 form.0, form.1))
+front_after_name later = same _ _ _ _ _
+    (λ head h. (h, h.0.txns))
+    (λ head h. h.0)
+    (λ head h. refl)
+    (seq (λ head. head.txns) (λ n. n < 2 ^ 64) (to_le_bytes w64) (slot_number w64) (IsNamed later) (λ head. to_le_bytes w64 head.place ++ segment_bytes head.form)
+    (λ at txns s. slot_number w64 s >>= λ place. next_form later place.1 >>= λ form. Ok (the_head txns place.0 form.0, form.1))
+    wide_codec
+    (λ at txns lt. front_after_txns later txns lt))
+
+pub front_codec : IsCodec IsHead front_bytes next_front
+unfolding next_front
+front_codec = same _ _ _ _ _
+    (λ head h. (h, tt))
+    (λ head h. h.0)
+    (λ head h. refl)
+    (seq (λ head. is_later head.form) (λ later. Unit {0}) checkpoint_name next_name IsHead (λ head. to_le_bytes w64 head.txns ++ (to_le_bytes w64 head.place ++ segment_bytes head.form))
+    (λ at later s. slot_number w64 s >>= λ txns. slot_number w64 txns.1 >>= λ place. next_form later place.1 >>= λ form. Ok (the_head txns.0 place.0 form.0, form.1))
+    name_codec
+    (λ at later is. front_after_name later))
+
+pub head_codec : (tables : ℕ) → tables < 65536 → IsCodec IsHead (head_bytes tables) (next_head tables)
+unfolding next_head
+head_codec tables few = same _ _ _ _ _
+    (λ head h. (tt, h))
+    (λ head h. h.1)
+    (λ head h. refl)
+    (seq (λ head. head) IsHead front_bytes next_front (λ head. Unit {0}) (λ head. to_le_bytes w16 tables) (λ at head s. next_count tables s >>= λ count. Ok (head, count.1))
+    front_codec
+    (λ at front is. same _ _ _ _ _
+    (λ head h. (h.1, refl))
+    (λ head h. (tt, h.0))
+    (λ head h. append-nil (to_le_bytes w16 tables))
+    (seq (λ head. tables) (λ n. n ≡ tables) (to_le_bytes w16) (next_count tables) (λ head. head ≡ front) (λ head. []) (λ at2 n s. Ok (front, s))
+    (count_codec tables few)
+    (λ at2 n is_n. same _ _ _ _ _
+    (λ head h. h.0)
+    (λ head e. (e, sym is_n))
+    (λ head h. refl)
+    (ended front)))))
+
+-- the parts of a head, written one after another
+pub head_grew : (o a b c d e n t p s k : List ℕ) → a ≡ o ++ n → b ≡ a ++ t → c ≡ b ++ p → d ≡ c ++ s → e ≡ d ++ k → e ≡ o ++ ((n ++ (t ++ (p ++ s))) ++ k)
+head_grew o a b c d e n t p s k one two three four five =
+    let front : d ≡ o ++ (n ++ (t ++ (p ++ s))) = four ∙ ap (λ (l : List ℕ). l ++ s) (three ∙ ap (λ (l : List ℕ). l ++ p) (two ∙ ap (λ (l : List ℕ). l ++ t) one)) ∙ append_assoc ((o ++ n) ++ t) p s ∙ append_assoc (o ++ n) t (p ++ s) ∙ append_assoc o n (t ++ (p ++ s)) in
+    five ∙ ap (λ (l : List ℕ). l ++ k) front ∙ append_assoc o (n ++ (t ++ (p ++ s))) k
 
 -- ---- the rows of a table
 

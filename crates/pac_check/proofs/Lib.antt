@@ -10,3 +10,6 @@ pub mod ReplacingLemmas
 pub mod SlotLemmas
 pub mod ShutLemmas
 pub mod OnceLemmas
+pub mod NewestLemmas
+pub mod FrontLemmas
+pub mod FillingLemmas

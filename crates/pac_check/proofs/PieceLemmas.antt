@@ -181,7 +181,7 @@ filled_known (Ok x) (Some h) old new_state held end count new of long ends befor
 
 -- ---- the items
 
-pub head_looks : (tables : ℕ) → LooksAt 26 (next_head tables)
+pub head_looks : (tables : ℕ) → LooksAt 27 (next_head tables)
 head_looks tables = λ base more s enough. head_alike base more tables s enough
 
 pub wide_looks : LooksAt 8 (slot_number w64)

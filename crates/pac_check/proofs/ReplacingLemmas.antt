@@ -1,15 +1,17 @@
 -- A slot that is shut, and then opened with a new text.
-use Rattle.std.proofs.Common.{◌≡◌, ◌≢◌, ◌∙◌, ◌⊎◌, inl, inr, ⊎_elim, ℕ, List, [], ◌∷◌, ◌++◌, ◌+◌, length, drop, Option, refl, sym, ap, subst, arith}
+use Rattle.std.proofs.Common.{◌≡◌, ◌≢◌, ◌∙◌, ◌⊎◌, inl, inr, ⊎_elim, ℕ, List, [], ◌∷◌, ◌++◌, ◌+◌, length, drop, Option, Some, None, refl, sym, ap, subst, arith}
 use Rattle.std.proofs.lemmas.Bool.{cases_eq}
 use Rattle.std.proofs.lemmas.List.{drop_all}
 use Rattle.std.proofs.Math.Seq.{drop-append-add}
-use Rattle.pac_outside.specs.Disk.{DiskState, DiskHistory, IsImage, BothKnown, LeavesTorn, IsDurable, wrote, settled, spliced}
+use Rattle.pac_outside.specs.Disk.{DiskState, DiskHistory, IsImage, BothKnown, IfKnown, LeavesOnly, LeavesTorn, IsDurable, wrote, settled, spliced}
 use Rattle.pac_outside.specs.GateByte.{IsShut, IsOpen, OneImage, ShutOrOpen}
-use Rattle.pac_outside.proofs.Images.{length_stays, back_stays}
-use Rattle.pac_outside.proofs.Histories.{weaken, goes_on, both, both_and, both_then}
+use Rattle.pac_outside.proofs.Images.{length_stays, back_stays, one_image}
+use Rattle.pac_outside.proofs.Histories.{weaken, both, stays}
 use Rattle.pac_check.specs.declared.state.SlotState.{SlotState}
 use Rattle.pac_check.specs.declared.state.SlotState.TheVariants.{Empty, Closed, Open}
-use Rattle.pac_check.specs.Replacing.{BeginsAs, HasByte, IsOldShutOrNew, Replaces}
+use Rattle.pac_check.specs.declared.head.Head.{Head}
+use Rattle.pac_check.specs.declared.slots.ReadyText.{ReadyText}
+use Rattle.pac_check.specs.Replacing.{BeginsAs, ClosesSlot, HasByte, IsClosed, IsOldOrShut, IsShutOrNew}
 
 open_or_shut : (rest image : List ℕ) → length image ≡ length (1 ∷ rest) → drop 1 image ≡ rest → (image ≡ 1 ∷ rest) ⊎ IsShut [] image
 open_or_shut rest [] long back = absurd (omega arith)
@@ -22,55 +24,52 @@ open_or_shut rest (gate ∷ after) long back = elim (cases_eq gate 1) [
 gate_torn : (rest image : List ℕ) → IsImage (wrote 0 (0 ∷ []) (settled (1 ∷ rest))) image → (image ≡ 1 ∷ rest) ⊎ IsShut [] image
 gate_torn rest image is = open_or_shut rest image (length_stays 0 (0 ∷ []) (1 ∷ rest) image is (omega arith)) (back_stays 0 (0 ∷ []) (1 ∷ rest) image is (omega arith))
 
-module _ (text : List ℕ) where
-  -- the first write
-  shutting : (state : SlotState) → state ≢ Closed → HasByte state → (a b : DiskHistory) → LeavesTorn 0 (0 ∷ []) a b → Replaces state text a b
-  shutting Empty other some a b run = absurd some
-  shutting Closed other some a b run = absurd (other refl)
-  shutting (Open head) other some a b run = λ alone. weaken (IsImage (wrote 0 (0 ∷ []) a.now)) (IsOldShutOrNew a.now.seen text) a b (λ image is.
-      let whole : a.now ≡ settled (1 ∷ alone.has.0) = alone.one ∙ ap settled alone.has.1 in
-      ⊎_elim (λ same. inl (same ∙ sym alone.has.1)) (λ shut. inr (inl shut)) (gate_torn alone.has.0 image (subst (λ (s : DiskState). IsImage (wrote 0 (0 ∷ []) s) image) whole is))) run
+-- the gate is shut
+pub shutting : (state : SlotState) → state ≢ Closed → HasByte state → (a b : DiskHistory) → LeavesTorn 0 (0 ∷ []) a b → ClosesSlot state a b
+shutting Empty other some a b run = absurd some
+shutting Closed other some a b run = absurd (other refl)
+shutting (Open head) other some a b run = λ alone. weaken (IsImage (wrote 0 (0 ∷ []) a.now)) (IsOldOrShut a.now.seen) a b (λ image is.
+    let whole : a.now ≡ settled (1 ∷ alone.has.0) = alone.one ∙ ap settled alone.has.1 in
+    ⊎_elim (λ same. inl (same ∙ sym alone.has.1)) (λ shut. inr shut) (gate_torn alone.has.0 image (subst (λ (s : DiskState). IsImage (wrote 0 (0 ∷ []) s) image) whole is))) run
 
-  shut : (state : SlotState) → state ≢ Closed → HasByte state → (a b : DiskHistory) → OneImage (BeginsAs state) a.now → IsDurable 0 (0 ∷ []) a b → OneImage (IsShut []) b.now
-  shut Empty other some a b alone durable = absurd some
-  shut Closed other some a b alone durable = absurd (other refl)
-  shut (Open head) other some a b alone durable =
-      let is : b.now ≡ settled (0 ∷ alone.has.0) = durable ∙ ap (λ (l : List ℕ). settled (spliced 0 (0 ∷ []) l)) alone.has.1 in
-      let seen_is = ap (λ (state : DiskState). state.seen) is in
-      record { one = is ∙ ap settled (sym seen_is); has = record { gate = 0; rest = alone.has.0; split = seen_is; shut = omega arith } }
+-- and then it is shut, also on a device that had no byte
+pub shut : (a b : DiskHistory) → IsDurable 0 (0 ∷ []) a b → OneImage (IsShut []) b.now
+shut a b durable =
+    let seen_is : b.now.seen ≡ 0 ∷ drop 1 a.now.seen = ap (λ (state : DiskState). state.seen) durable in
+    record { one = durable ∙ ap settled (sym seen_is); has = record { gate = 0; rest = drop 1 a.now.seen; split = seen_is; shut = omega arith } }
 
-  opening : (state : SlotState) → state ≢ Closed → HasByte state → (a b c : DiskHistory) → LeavesTorn 0 (0 ∷ []) a b × IsDurable 0 (0 ∷ []) a b → ShutOrOpen [] text b c → Replaces state text a c
-  opening state other some a b c first second = λ alone. goes_on (IsOldShutOrNew a.now.seen text) a b c (shutting state other some a b first.0 alone)
-      (weaken (λ image. IsShut [] image ⊎ IsOpen [] text image) (IsOldShutOrNew a.now.seen text) b c (λ image is. inr is) (second (shut state other some a b alone first.1)))
+pub shutting_both : (state : SlotState) → state ≢ Closed → HasByte state → (a b : Option DiskHistory) → BothKnown (LeavesTorn 0 (0 ∷ [])) a b → BothKnown (ClosesSlot state) a b
+shutting_both state other some = both (LeavesTorn 0 (0 ∷ [])) (ClosesSlot state) (shutting state other some)
 
-  after_shut : (a b : DiskHistory) → ShutOrOpen [] text a b → Replaces Closed text a b
-  after_shut a b run = λ alone. weaken (λ image. IsShut [] image ⊎ IsOpen [] text image) (IsOldShutOrNew a.now.seen text) a b (λ image is. inr is) (run alone)
+pub shut_both : (state : SlotState) (a b : Option DiskHistory) → BothKnown (IsDurable 0 (0 ∷ [])) a b → BothKnown (IsClosed state) a b
+shut_both state = both (IsDurable 0 (0 ∷ [])) (IsClosed state) (λ a b durable alone. shut a b durable)
 
-  pub shutting_both : (state : SlotState) → state ≢ Closed → HasByte state → (a b : Option DiskHistory) → BothKnown (LeavesTorn 0 (0 ∷ [])) a b → BothKnown (Replaces state text) a b
-  shutting_both state other some = both (LeavesTorn 0 (0 ∷ [])) (Replaces state text) (shutting state other some)
+-- a text after a shut gate is there whole, or isn't found
+opening : (state : SlotState) (text : List ℕ) → state ≡ Closed → (a b : DiskHistory) → OneImage (BeginsAs state) a.now → ShutOrOpen [] text a b → LeavesOnly (IsShutOrNew text) a b
+opening state text closed a b alone run = run (subst (λ (s : SlotState). OneImage (BeginsAs s) a.now) closed alone)
 
-  pub opening_both : (state : SlotState) → state ≢ Closed → HasByte state → (a b c : Option DiskHistory) → BothKnown (LeavesTorn 0 (0 ∷ [])) a b → BothKnown (IsDurable 0 (0 ∷ [])) a b → BothKnown (ShutOrOpen [] text) b c → BothKnown (Replaces state text) a c
-  opening_both state other some a b c moments durable second = both_then (λ old new. LeavesTorn 0 (0 ∷ []) old new × IsDurable 0 (0 ∷ []) old new) (ShutOrOpen [] text) (Replaces state text) (opening state other some) a b c
-      (both_and (LeavesTorn 0 (0 ∷ [])) (IsDurable 0 (0 ∷ [])) a b moments durable) second
+pub opening_known : (state : SlotState) (piece text : List ℕ) → state ≡ Closed → piece ≡ text → (a b : Option DiskHistory) → IfKnown (λ o. OneImage (BeginsAs state) o.now) a → BothKnown (ShutOrOpen [] piece) a b
+    → BothKnown (λ old new. LeavesOnly (IsShutOrNew text) old new) a b
+opening_known state piece text closed same None None alone run = tt
+opening_known state piece text closed same None (Some b) alone run = absurd run
+opening_known state piece text closed same (Some a) None alone run = absurd run
+opening_known state piece text closed same (Some a) (Some b) alone run = subst (λ (t : List ℕ). LeavesOnly (IsShutOrNew t) a b) same (opening state piece closed a b alone run)
 
-  pub after_shut_both : (a b : Option DiskHistory) → BothKnown (ShutOrOpen [] text) a b → BothKnown (Replaces Closed text) a b
-  after_shut_both = both (ShutOrOpen [] text) (Replaces Closed text) after_shut
-
--- a byte and then a longer piece at the start are that piece
-spliced_over : (byte other : ℕ) (piece bytes : List ℕ) → spliced 0 (byte ∷ piece) (spliced 0 (other ∷ []) bytes) ≡ spliced 0 (byte ∷ piece) bytes
-spliced_over byte other piece [] =
-    let short : drop (0 + length (byte ∷ piece)) (other ∷ []) ≡ [] = drop_all (0 + length (byte ∷ piece)) (other ∷ []) (omega arith) in
-    ap (λ (l : List ℕ). (byte ∷ piece) ++ l) (short ∙ sym (drop_all (0 + length (byte ∷ piece)) [] (omega arith)))
-spliced_over byte other piece (b ∷ bytes) = ap (λ (l : List ℕ). (byte ∷ piece) ++ l) (rest other ∙ sym (rest b))
+-- what was ready is what was taken
+pub taken_text : (ready taken : Option ReadyText) (found : ReadyText) (head : Head) (text : List ℕ) → taken ≡ ready → taken ≡ Some found → ready ≡ Some (record { head = head; text = text }) → found.text ≡ text
+taken_text ready taken found head text value is there = ap (λ (r : ReadyText). r.text) (one (sym is ∙ value ∙ there))
   where
-    rest : (first : ℕ) → drop (0 + length (byte ∷ piece)) (first ∷ bytes) ≡ drop (length piece) bytes
-    rest first =
-        let one : 0 + length (byte ∷ piece) ≡ length (first ∷ []) + length piece = omega arith in
-        ap (λ (n : ℕ). drop n (first ∷ bytes)) one ∙ drop-append-add (first ∷ []) bytes (length piece)
+    one : Some found ≡ Some (record { head = head; text = text }) → found ≡ record { head = head; text = text }
+    one e = cc
 
-over : (text : List ℕ) (a b c : DiskHistory) → IsDurable 0 (0 ∷ []) a b → IsDurable 0 (1 ∷ text) b c → IsDurable 0 (1 ∷ text) a c
-over text a b c first second = second ∙ ap (λ (state : DiskState). settled (spliced 0 (1 ∷ text) state.seen)) first ∙ ap settled (spliced_over 1 0 text a.now.seen)
+-- a shut slot that isn't called stays so
+resting : (a : DiskHistory) → ClosesSlot Closed a a
+resting a alone = stays (IsOldOrShut a.now.seen) a (λ image is. inr (subst (λ (i : List ℕ). IsShut [] i) (sym (one_image a.now.seen image (subst (λ (s : DiskState). IsImage s image) alone.one is))) alone.has))
 
--- all that is written in both steps is the text and its gate
-pub both_steps_write : (text : List ℕ) (a b c : Option DiskHistory) → BothKnown (IsDurable 0 (0 ∷ [])) a b → BothKnown (IsDurable 0 (1 ∷ text)) b c → BothKnown (IsDurable 0 (1 ∷ text)) a c
-both_steps_write text = both_then (IsDurable 0 (0 ∷ [])) (IsDurable 0 (1 ∷ text)) (IsDurable 0 (1 ∷ text)) (over text)
+pub resting_both : (a : Option DiskHistory) → BothKnown (ClosesSlot Closed) a a
+resting_both None = tt
+resting_both (Some a) = resting a
+
+pub rests_closed : (a : Option DiskHistory) → BothKnown (IsClosed Closed) a a
+rests_closed None = tt
+rests_closed (Some a) = λ alone. alone

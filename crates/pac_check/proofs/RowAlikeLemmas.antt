@@ -16,12 +16,15 @@ use Rattle.pac_bytes.specs.Reading.{Rest, advanced, reported_as}
 use Rattle.pac_bytes.specs.Typed.{next_values}
 use Rattle.pac_check.specs.declared.damage.SlotDamageKind.TheVariants.{Magic, Range, Order}
 use Rattle.pac_check.specs.declared.damage.SlotFault.{SlotFault}
+use Rattle.pac_outside.specs.declared.devices.LogName.TheVariants.{Log, LogB}
 use Rattle.pac_check.specs.declared.head.Head.{Head}
+use Rattle.pac_check.specs.declared.head.SlotForm.{SlotForm}
+use Rattle.pac_check.specs.declared.head.SlotForm.TheVariants.{First, Later}
 use Rattle.pac_check.specs.Kinds.{slot_fault, as_slot_fault, of_typed}
-use Rattle.pac_check.specs.Checkpoints.{KeyedRow, checkpoint_name, head_with, is_above}
-use Rattle.pac_check.specs.CheckpointReading.{slot_number, next_name, next_count, next_head, next_row}
+use Rattle.pac_check.specs.Checkpoints.{KeyedRow, checkpoint_name, is_above}
+use Rattle.pac_check.specs.CheckpointReading.{slot_number, next_name, next_form, next_count, next_front, next_head, next_row, of_segment}
 use Rattle.pac_check.proofs.CheckpointLemmas.{same_bytes}
-use Rattle.pac_check.proofs.AlikeLemmas.{short_placed, typed_placed, slot_placed, whole, HasEnough, Alike, bound, mapped, reported, tested, none_read, uint_alike, key_alike, values_alike}
+use Rattle.pac_check.proofs.AlikeLemmas.{short_placed, typed_placed, slot_placed, whole, HasEnough, Alike, bound, mapped, reported, tested, none_read, wider, byte_alike, uint_alike, key_alike, values_alike}
 
 -- the most bytes that a row of the table has
 abbrev pub row_room : Table → ℕ
@@ -53,24 +56,34 @@ module _ (base : ℕ) (more : List ℕ) where
   same_name s (inl long) = take-append-le 8 s.bytes more long
   same_name s (inr none) = ap (λ (l : List ℕ). take 8 l) (ap (λ (l : List ℕ). s.bytes ++ l) none ∙ append-nil s.bytes)
 
-  long_name : (front : List ℕ) → pointwise nat_eq (take 8 front) checkpoint_name ≡ true → 8 ≤ length front
-  long_name front is = omega (arith, ap (λ (l : List ℕ). length l) (same_bytes (take 8 front) checkpoint_name is), length-take 8 front)
+  long_name : (later : Bool) (front : List ℕ) → pointwise nat_eq (take 8 front) (checkpoint_name later) ≡ true → 8 ≤ length front
+  long_name false front is = omega (arith, ap (λ (l : List ℕ). length l) (same_bytes (take 8 front) (checkpoint_name false) is), length-take 8 front)
+  long_name true front is = omega (arith, ap (λ (l : List ℕ). length l) (same_bytes (take 8 front) (checkpoint_name true) is), length-take 8 front)
+
+  named : (s : Rest) (later : Bool) → 8 ≤ length s.bytes → ◌≡◌ {A = Result (Bool × Rest) SlotFault} (Ok (later, advanced 8 (whole base more s))) (Ok (later, whole base more (advanced 8 s)))
+  named s later long = ap (λ (l : List ℕ). found l (base + s.at + 8)) (drop-append-le 8 s.bytes more long) ∙ ap (λ (n : ℕ). found (drop 8 s.bytes ++ more) n) (omega arith)
+    where
+      found : List ℕ → ℕ → Result (Bool × Rest) SlotFault
+      found l n = Ok (later, record { at = n; bytes = l })
 
   name_alike : (s : Rest) → HasEnough base more 8 s → Alike base more slot_placed 8 s (next_name s) (next_name (whole base more s))
-  name_alike s enough = go (pointwise nat_eq (take 8 s.bytes) checkpoint_name) refl
+  name_alike s enough = rw (same_name s enough) (
+      tested base more slot_placed 8 s (pointwise nat_eq (take 8 s.bytes) (checkpoint_name false)) _ _ _ _ (λ e. there false (long_name false s.bytes e))
+      (λ none. tested base more slot_placed 8 s (pointwise nat_eq (take 8 s.bytes) (checkpoint_name true)) _ _ _ _ (λ e. there true (long_name true s.bytes e)) (λ e. (refl, omega arith))))
     where
-      go : (b : Bool) → pointwise nat_eq (take 8 s.bytes) checkpoint_name ≡ b → Alike base more slot_placed 8 s (cond b (Ok (checkpoint_name, advanced 8 s)) (Err (slot_fault Magic s.at))) (next_name (whole base more s))
-      go true e =
-          let long : 8 ≤ length s.bytes = long_name s.bytes e in (
-            rw (same_name s enough, e, drop-append-le 8 s.bytes more long) (ap (λ (n : ℕ). found n) (omega arith)),
-            omega (arith, length-drop 8 s.bytes, long),
-            omega (arith, length-drop 8 s.bytes, long),
-            omega arith,
-          )
-        where
-          found : ℕ → Result (List ℕ × Rest) SlotFault
-          found n = Ok (checkpoint_name, record { at = n; bytes = drop 8 s.bytes ++ more })
-      go false e = (rw (same_name s enough, e) refl, omega arith)
+      there : (later : Bool) → 8 ≤ length s.bytes → Alike base more slot_placed 8 s (Ok (later, advanced 8 s)) (Ok (later, advanced 8 (whole base more s)))
+      there later long = (named s later long, omega (arith, length-drop 8 s.bytes, long), omega (arith, length-drop 8 s.bytes, long), omega arith)
+
+  -- the form, after its name
+  form_alike : (later : Bool) (s : Rest) → HasEnough base more 1 s → Alike base more slot_placed 1 s (next_form later s) (next_form later (whole base more s))
+  form_alike false s enough =
+      let here : Result (SlotForm × Rest) SlotFault = Ok (First, s) in
+      let there : Result (SlotForm × Rest) SlotFault = Ok (First, whole base more s) in
+      wider base more slot_placed 0 1 s here there (omega arith) (none_read base more slot_placed 0 s First)
+  form_alike true s enough = bound base more slot_placed 1 0 s _ _ (of_segment s.at) (of_segment (base + s.at)) enough
+      (λ h. short_slot 1 s _ _ (byte_alike base more s h))
+      (λ p later h. tested base more slot_placed 0 p.1 (eqb p.0 0) _ _ _ _ (λ e. none_read base more slot_placed 0 p.1 (Later Log))
+      (λ e. tested base more slot_placed 0 p.1 (eqb p.0 1) _ _ _ _ (λ f. none_read base more slot_placed 0 p.1 (Later LogB)) (λ f. (refl, omega (arith, later)))))
 
   count_alike : (tables : ℕ) (s : Rest) → HasEnough base more 2 s → Alike base more slot_placed 2 s (next_count tables s) (next_count tables (whole base more s))
   count_alike tables s enough = bound base more slot_placed 2 0 s _ _ (of_count s.at) (of_count (base + s.at)) enough
@@ -80,24 +93,36 @@ module _ (base : ℕ) (more : List ℕ) where
       of_count : ℕ → ℕ × Rest → Result (ℕ × Rest) SlotFault
       of_count at count = cond (eqb count.0 tables) (Ok count) (Err (slot_fault Range at))
 
-  pub head_alike : (tables : ℕ) (s : Rest) → HasEnough base more 26 s → Alike base more slot_placed 26 s (next_head tables s) (next_head tables (whole base more s))
-  unfolding next_head
-  head_alike tables s enough = bound base more slot_placed 8 18 s _ _ after_name after_name enough
+  pub front_alike : (s : Rest) → HasEnough base more 25 s → Alike base more slot_placed 25 s (next_front s) (next_front (whole base more s))
+  unfolding next_front
+  front_alike s enough = bound base more slot_placed 8 17 s _ _ after_name after_name enough
       (λ h. name_alike s h)
-      (λ name later h. bound base more slot_placed 8 10 name.1 _ _ after_txns after_txns h
+      (λ name later h. bound base more slot_placed 8 9 name.1 _ _ (after_txns name.0) (after_txns name.0) h
       (λ k. wide_alike name.1 k)
-      (λ txns later_still k. bound base more slot_placed 8 2 txns.1 _ _ (after_place txns.0) (after_place txns.0) k
+      (λ txns later_still k. bound base more slot_placed 8 1 txns.1 _ _ (after_place name.0 txns.0) (after_place name.0 txns.0) k
       (λ l. wide_alike txns.1 l)
-      (λ place last l. mapped base more slot_placed 2 place.1 (λ (count : ℕ). head_with txns.0 place.0) _ _ (count_alike tables place.1 l))))
+      (λ place last l. mapped base more slot_placed 1 place.1 (λ (form : SlotForm). the_head txns.0 place.0 form) _ _ (form_alike name.0 place.1 l))))
     where
-      after_place : ℕ → ℕ × Rest → Result (Head × Rest) SlotFault
-      after_place txns place = next_count tables place.1 >>= λ count. Ok (head_with txns place.0, count.1)
+      the_head : ℕ → ℕ → SlotForm → Head
+      the_head txns place form = record { txns = txns; place = place; form = form }
 
-      after_txns : ℕ × Rest → Result (Head × Rest) SlotFault
-      after_txns txns = slot_number w64 txns.1 >>= after_place txns.0
+      after_place : Bool → ℕ → ℕ × Rest → Result (Head × Rest) SlotFault
+      after_place later txns place = next_form later place.1 >>= λ form. Ok (the_head txns place.0 form.0, form.1)
 
-      after_name : List ℕ × Rest → Result (Head × Rest) SlotFault
-      after_name name = slot_number w64 name.1 >>= after_txns
+      after_txns : Bool → ℕ × Rest → Result (Head × Rest) SlotFault
+      after_txns later txns = slot_number w64 txns.1 >>= after_place later txns.0
+
+      after_name : Bool × Rest → Result (Head × Rest) SlotFault
+      after_name name = slot_number w64 name.1 >>= after_txns name.0
+
+  pub head_alike : (tables : ℕ) (s : Rest) → HasEnough base more 27 s → Alike base more slot_placed 27 s (next_head tables s) (next_head tables (whole base more s))
+  unfolding next_head
+  head_alike tables s enough = bound base more slot_placed 25 2 s _ _ after_front after_front enough
+      (λ h. front_alike s h)
+      (λ front later h. mapped base more slot_placed 2 front.1 (λ (count : ℕ). front.0) _ _ (count_alike tables front.1 h))
+    where
+      after_front : Head × Rest → Result (Head × Rest) SlotFault
+      after_front front = next_count tables front.1 >>= λ count. Ok (front.0, count.1)
 
   -- ---- a row
 

@@ -1,7 +1,6 @@
--- What the first byte says of a slot that is shut.
+-- What stands in a slot that is shut.
 use Rattle.std.proofs.Common.{◌≡◌, ◌≢◌, ℕ, Bool, true, false, if◌then◌else◌, eqb, List, [], ◌∷◌, take, Option, Some, None, Ok, refl, sym, subst}
 use Rattle.std.proofs.lemmas.Bool.{eqb-true}
-use Rattle.pac_outside.specs.Disk.{DiskHistory, IfKnown}
 use Rattle.pac_types.specs.declared.table.Table.{Table}
 use Rattle.pac_check.specs.declared.head.Head.{Head}
 use Rattle.pac_check.specs.declared.state.SlotState.{SlotState}
@@ -26,7 +25,7 @@ closed_read tables gate bytes shut = go (eqb gate 1) refl
     go true e = absurd (shut (eqb-true _ _ e))
     go false e = refl
 
-shut_slot : (tables : List Table) (state : SlotState) (image : List ℕ) → NotOpen state → BeginsAs state image → IsSlot tables state image × OpensExactly tables state image
+pub shut_slot : (tables : List Table) (state : SlotState) (image : List ℕ) → NotOpen state → BeginsAs state image → IsSlot tables state image × OpensExactly tables state image
 shut_slot tables Empty image shut is = subst (λ (bytes : List ℕ). IsSlot tables Empty bytes × OpensExactly tables Empty bytes) (sym is) (
   refl,
   record {
@@ -42,16 +41,3 @@ shut_slot tables Closed image shut is = subst (λ (bytes : List ℕ). IsSlot tab
   },
 )
 shut_slot tables (Open head) image shut is = absurd (shut head refl)
-
-pub shut_known : (tables : List Table) (state : SlotState) (gate : List ℕ) → ((head : Head) → state ≢ Open head) → ((image : List ℕ) → gate ≡ take 1 image → BeginsAs state image) → (known : Option DiskHistory) → IfKnown (λ old. gate ≡ take 1 old.now.seen) known
-    → IfKnown (λ old. IsSlot tables state old.now.seen × OpensExactly tables state old.now.seen) known
-shut_known tables state gate shut begins None is = tt
-shut_known tables state gate shut begins (Some old) is = shut_slot tables state old.now.seen shut (begins old.now.seen is)
-
--- what the open gate, as it was read, says of the device
-pub gate_known : (gate : List ℕ) (old new : Option DiskHistory) → new ≡ old → ((image : List ℕ) → gate ≡ take 1 image → take 1 image ≡ 1 ∷ []) → IfKnown (λ h. gate ≡ take 1 h.now.seen) old → IfKnown (λ h. take 1 h.now.seen ≡ 1 ∷ []) new
-gate_known gate old new same is_open is = subst (λ (k : Option DiskHistory). IfKnown (λ h. take 1 h.now.seen ≡ 1 ∷ []) k) (sym same) (go old is)
-  where
-    go : (k : Option DiskHistory) → IfKnown (λ h. gate ≡ take 1 h.now.seen) k → IfKnown (λ h. take 1 h.now.seen ≡ 1 ∷ []) k
-    go None e = tt
-    go (Some h) e = is_open h.now.seen e

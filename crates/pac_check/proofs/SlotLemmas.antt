@@ -2,25 +2,21 @@
 use Rattle.std.proofs.Common.{◌≡◌, ◌∙◌, ℕ, ◌<◌, Bool, true, false, if◌then◌else◌, eqb, List, [], ◌∷◌, ◌++◌, length, take, drop, Option, Some, None, Result, Ok, Err, OnOk, inl, refl, sym, ap, ap₂, subst}
 use Rattle.std.proofs.lemmas.Bool.{eqb-true, eqb-false}
 use Rattle.std.proofs.lemmas.List.{take-append-drop}
-use Rattle.pac_outside.specs.Disk.{DiskState, DiskHistory, IsImage, Leaves, LeavesOnly, BothKnown, IfKnown, SeenAreBytes}
-use Rattle.pac_outside.specs.GateByte.{IsOpen, OneImage}
-use Rattle.pac_outside.proofs.Histories.{stays}
-use Rattle.pac_outside.proofs.Images.{one_image}
+use Rattle.pac_outside.specs.Disk.{DiskState, DiskHistory, IfKnown, SeenAreBytes}
+use Rattle.pac_outside.specs.GateByte.{OneImage}
 use Rattle.pac_value.specs.State.{Tables}
 use Rattle.pac_types.specs.declared.table.Table.{Table}
 use Rattle.pac_bytes.specs.Reading.{Rest, from}
 use Rattle.pac_bytes.proofs.Bytes.{IsBytes, IsBytes-drop}
 use Rattle.pac_check.specs.declared.damage.SlotFault.{SlotFault}
 use Rattle.pac_check.specs.declared.head.Head.{Head}
-use Rattle.pac_check.specs.declared.info.SlotName.{SlotName}
-use Rattle.pac_check.specs.declared.info.SlotName.TheVariants.{A, B}
 use Rattle.pac_check.specs.declared.state.SlotState.{SlotState}
 use Rattle.pac_check.specs.declared.state.SlotState.TheVariants.{Empty, Closed, Open}
-use Rattle.pac_check.specs.Checkpoints.{Checkpoint, KeyedRow, IsCheckpoint, checkpoint_bytes}
+use Rattle.pac_check.specs.Checkpoints.{Checkpoint, KeyedRow}
 use Rattle.pac_check.specs.CheckpointReading.{next_checkpoint, head_alone}
 use Rattle.pac_check.specs.PieceStates.{PiecesState, WasRead}
-use Rattle.pac_check.specs.Replacing.{BeginsAs, IsOldShutOrNew, IsReplaced}
-use Rattle.pac_check.specs.SlotStates.{by_slot, opened, slot_read, IsSlot, HoldsCheckpoint, HoldsRows, OpensExactly}
+use Rattle.pac_check.specs.Replacing.{BeginsAs}
+use Rattle.pac_check.specs.SlotStates.{opened, slot_read, IsSlot, HoldsCheckpoint, HoldsRows, OpensExactly}
 use Rattle.pac_check.specs.Saved.{checkpoint_of, rows_of_tables}
 use Rattle.pac_check.proofs.CheckpointLemmas.{checkpoint_codec}
 
@@ -126,32 +122,5 @@ module _ (tables : List Table) (few : length tables < 65536) where
       one a b e = cc
 
 -- one image that begins as this slot does
-begins_one : (tables : List Table) (state : SlotState) (disk : DiskState) → OneImage (IsSlot tables state) disk → OneImage (BeginsAs state) disk
+pub begins_one : (tables : List Table) (state : SlotState) (disk : DiskState) → OneImage (IsSlot tables state) disk → OneImage (BeginsAs state) disk
 begins_one tables state disk alone = record { one = alone.one; has = begins tables state disk.seen alone.has }
-
--- after a checkpoint was put into a slot, it is known again
-pub known_after : (tables : List Table) → length tables < 65536 → (state new_state : SlotState) (checkpoint : Checkpoint) (text : List ℕ) → IsCheckpoint tables checkpoint → text ≡ checkpoint_bytes checkpoint → (X : Type 0) {T E : Type 0} (result : Result T E) (old new : Option DiskHistory)
-    → IfKnown (λ o. OneImage (IsSlot tables state) o.now) old → OnOk result (BothKnown (IsReplaced state text) old new) → OnOk result ((new_state ≡ Open checkpoint.head) × X) → OnOk result (IfKnown (λ n. OneImage (IsSlot tables new_state) n.now) new)
-known_after tables few state new_state checkpoint text form is X (Err e) old new alone replaced noted = tt
-known_after tables few state new_state checkpoint text form is X (Ok x) None None alone replaced noted = tt
-known_after tables few state new_state checkpoint text form is X (Ok x) None (Some n) alone replaced noted = absurd replaced
-known_after tables few state new_state checkpoint text form is X (Ok x) (Some o) None alone replaced noted = absurd replaced
-known_after tables few state new_state checkpoint text form is X (Ok x) (Some o) (Some n) alone replaced noted =
-    let after = replaced (begins_one tables state o.now alone) in
-    let holds : HoldsCheckpoint tables checkpoint n.now.seen = record { form = form; opens = subst (λ (t : List ℕ). IsOpen [] t n.now.seen) is after.has } in
-    record { one = after.one; has = read_held tables few n.now.seen checkpoint holds ∙ ap (λ (s : SlotState). the_state s) (sym noted.0) }
-  where
-    the_state : SlotState → Result SlotState SlotFault
-    the_state s = Ok s
-
--- where no device is called, a crash leaves what it might have left
-rests : (P : List ℕ → Type 0) (text : List ℕ) (known : Option DiskHistory) → IfKnown (λ o. OneImage P o.now) known → BothKnown (λ old new. LeavesOnly (IsOldShutOrNew old.now.seen text) old new) known known
-rests P text None alone = tt
-rests P text (Some old) alone =
-    let here : Leaves (IsOldShutOrNew old.now.seen text) old.now = λ image is. inl (one_image old.now.seen image (subst (λ (s : DiskState). IsImage s image) alone.one is)) in
-    stays (IsOldShutOrNew old.now.seen text) old here
-
-pub rests_by_slot : (slot : SlotName) (P Q : List ℕ → Type 0) (text : List ℕ) (a b : Option DiskHistory) → IfKnown (λ o. OneImage P o.now) a → IfKnown (λ o. OneImage Q o.now) b
-    → BothKnown (λ old new. LeavesOnly (IsOldShutOrNew old.now.seen text) old new) (by_slot slot a b) (by_slot slot a b)
-rests_by_slot A P Q text a b first second = rests P text a first
-rests_by_slot B P Q text a b first second = rests Q text b second

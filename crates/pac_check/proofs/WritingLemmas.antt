@@ -13,8 +13,11 @@ use Rattle.pac_types.specs.Fits.{FitTables}
 use Rattle.pac_types.proofs.ShapeLemmas.{key-of_fit, columns-of_fit}
 use Rattle.pac_entry.proofs.WrittenLemmas.{one_more}
 use Rattle.pac_check.specs.declared.limits.TheConstants.{MAX_SAVED_ROWS}
+use Rattle.pac_outside.specs.declared.devices.LogName.TheVariants.{Log, LogB}
 use Rattle.pac_check.specs.declared.head.Head.{Head}
-use Rattle.pac_check.specs.Checkpoints.{KeyedRow, checkpoint_bytes, head_bytes, rows_bytes, RowHasBytes, IsKeyedRow, AreRowsOf, IsHead, IsCheckpoint}
+use Rattle.pac_check.specs.declared.head.SlotForm.{SlotForm}
+use Rattle.pac_check.specs.declared.head.SlotForm.TheVariants.{First, Later}
+use Rattle.pac_check.specs.Checkpoints.{KeyedRow, checkpoint_bytes, head_bytes, head_length, rows_bytes, RowHasBytes, IsKeyedRow, AreRowsOf, IsHead, IsCheckpoint}
 use Rattle.pac_check.specs.Saved.{table_rows, rows_of_tables, checkpoint_of}
 use Rattle.pac_check.proofs.RowsLemmas.{ascending-rows, as-many, each-row, all-at, tables-counted, rows_from, tables-from}
 
@@ -69,6 +72,21 @@ written-checkpoint tables head held is fits bytes few = record {
   rows = subst (λ (rows : List (List KeyedRow)). AllZip AreRowsOf tables rows) (sym (tables-from held (length tables)))
       (zipped AreRowsOf held tables 0 (λ i table at. subst (λ (n : ℕ). AreRowsOf table (table_rows held n)) (omega arith) (rows-of-table tables held fits i table at (bytes i (within tables i table at)) (few i (within tables i table at)))));
 }
+
+-- how many bytes a head has
+head_long : (n : ℕ) (head : Head) → length (head_bytes n head) ≡ head_length head.form
+head_long n head = go head.form
+  where
+    go : (form : SlotForm) → length (head_bytes n (record { txns = head.txns; place = head.place; form = form })) ≡ head_length form
+    go First = refl
+    go (Later Log) = refl
+    go (Later LogB) = refl
+
+-- and how many a checkpoint
+pub checkpoint_long : (tables : ℕ) (head : Head) (held : Tables) → length (checkpoint_bytes (checkpoint_of tables head held)) ≡ head_length head.form + length (flat_map rows_bytes (rows_of_tables held tables))
+checkpoint_long tables head held =
+    let count = length (rows_of_tables held tables) in
+    length-append (head_bytes count head) (flat_map rows_bytes (rows_of_tables held tables)) ∙ ap (λ (n : ℕ). n + length (flat_map rows_bytes (rows_of_tables held tables))) (head_long count head)
 
 -- the head, and the tables after it
 pub head-and-tables : (count tables : ℕ) (head : Head) (held : Tables) (a b c : List ℕ) → count ≡ tables → a ≡ [] → b ≡ a ++ head_bytes count head → c ≡ b ++ flat_map rows_bytes (rows_of_tables held count) → c ≡ checkpoint_bytes (checkpoint_of tables head held)

@@ -1,5 +1,5 @@
 -- The bytes of a checkpoint, as they stand after the open gate of a slot.
-use Rattle.std.specs.Prelude.{◌≡◌, ◌<◌, ◌^◌, ℕ, Bool, true, IsTrue, List, [], ◌∷◌, ◌++◌, length, codes, Option, Some, None}
+use Rattle.std.specs.Prelude.{◌≡◌, ◌<◌, ◌^◌, ℕ, Bool, true, false, IsTrue, List, [], ◌∷◌, ◌++◌, length, codes, Option, Some, None}
 use Rattle.std.specs.Int.{w16, w64, to_le_bytes}
 use Rattle.std.specs.List.{flat_map, All, AllByRecursion, AllZip}
 use Rattle.std.specs.Ordering.{is_lt}
@@ -11,29 +11,66 @@ use Rattle.pac_value.specs.State.{RowValues}
 use Rattle.pac_bytes.specs.Typed.{key_bytes, values_bytes, KeyHasType, HaveTypes}
 use Rattle.pac_types.specs.declared.table.Table.{Table}
 use Rattle.pac_types.specs.WellFormed.{types}
+use Rattle.pac_outside.specs.declared.devices.LogName.{LogName}
+use Rattle.pac_outside.specs.declared.devices.LogName.TheVariants.{Log, LogB}
 use Rattle.pac_check.specs.declared.head.Head.{Head}
+use Rattle.pac_check.specs.declared.head.SlotForm.{SlotForm}
+use Rattle.pac_check.specs.declared.head.SlotForm.TheVariants.{First, Later}
 
 -- a row with its key
 abbrev pub KeyedRow : Type 0
 KeyedRow = Key × RowValues
 
--- how many transactions are in it, at which offset the log's gate stands after these, and the rows of each table in the
--- order of their keys
+-- how many transactions are in it, at which offset of which segment the gate stands after these, and the rows of each table in
+-- the order of their keys
 pub record Checkpoint : Type 0 where
   pub head : Head
   pub tables : List (List KeyedRow)
 
--- the head with these numbers
-abbrev pub head_with : ℕ → ℕ → Head
-head_with txns place = record { txns = txns; place = place }
+-- the head with these numbers, of a checkpoint of the first form
+abbrev pub first_head : ℕ → ℕ → Head
+first_head txns place = record { txns = txns; place = place; form = First }
+
+-- the head with these numbers, of a checkpoint that names this segment
+abbrev pub head_with : ℕ → ℕ → LogName → Head
+head_with txns place segment = record { txns = txns; place = place; form = Later segment }
+
+-- the segment that a checkpoint names: one of the first form names the log
+abbrev pub segment_in : SlotForm → LogName
+segment_in First = Log
+segment_in (Later segment) = segment
+
+-- whether a checkpoint of this form has a byte that names a segment
+abbrev pub is_later : SlotForm → Bool
+is_later First = false
+is_later (Later segment) = true
 
 -- the name that a checkpoint begins with
-abbrev pub checkpoint_name : List ℕ
-checkpoint_name = codes "PACMSLT1"
+abbrev pub checkpoint_name : Bool → List ℕ
+checkpoint_name false = codes "PACMSLT1"
+checkpoint_name true = codes "PACMSLT2"
 
--- the name, the number of transactions, the offset, and the number of tables
+-- the byte of a segment
+abbrev pub segment_byte : LogName → ℕ
+segment_byte Log = 0
+segment_byte LogB = 1
+
+abbrev pub segment_bytes : SlotForm → List ℕ
+segment_bytes First = []
+segment_bytes (Later segment) = segment_byte segment ∷ []
+
+-- how many bytes a head of this form has
+abbrev pub head_length : SlotForm → ℕ
+head_length First = 26
+head_length (Later segment) = 27
+
+-- the name, the number of transactions, the offset, and the segment where the form names one
+abbrev pub front_bytes : Head → List ℕ
+front_bytes head = checkpoint_name (is_later head.form) ++ (to_le_bytes w64 head.txns ++ (to_le_bytes w64 head.place ++ segment_bytes head.form))
+
+-- and the number of tables
 abbrev pub head_bytes : ℕ → Head → List ℕ
-head_bytes tables head = checkpoint_name ++ (to_le_bytes w64 head.txns ++ (to_le_bytes w64 head.place ++ to_le_bytes w16 tables))
+head_bytes tables head = front_bytes head ++ to_le_bytes w16 tables
 
 -- a key, and then the values of the columns
 abbrev pub keyed_bytes : KeyedRow → List ℕ

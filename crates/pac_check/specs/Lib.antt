@@ -6,3 +6,4 @@ pub mod Saved
 pub mod Taking
 pub mod SlotStates
 pub mod Replacing
+pub mod Filling

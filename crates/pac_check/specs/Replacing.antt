@@ -17,14 +17,18 @@ HasByte Empty = ⊥
 HasByte Closed = Unit {0}
 HasByte (Open head) = Unit {0}
 
--- while a text is put after the gate: the slot is as it was, or shut, or open with the whole text
-abbrev pub IsOldShutOrNew : List ℕ → List ℕ → List ℕ → Type 0
-IsOldShutOrNew old text image = (image ≡ old) ⊎ (IsShut [] image ⊎ IsOpen [] text image)
+-- while its gate is closed: the slot is as it was, or shut
+abbrev pub IsOldOrShut : List ℕ → List ℕ → Type 0
+IsOldOrShut old image = (image ≡ old) ⊎ IsShut [] image
 
--- at each moment a slot of one image is as it was, or shut, or open with the whole text
-abbrev pub Replaces : SlotState → List ℕ → DiskHistory → DiskHistory → Type 0
-Replaces state text old new = OneImage (BeginsAs state) old.now → LeavesOnly (IsOldShutOrNew old.now.seen text) old new
+-- while a text is put after the gate: the slot is shut, or open with the whole text
+abbrev pub IsShutOrNew : List ℕ → List ℕ → Type 0
+IsShutOrNew text image = IsShut [] image ⊎ IsOpen [] text image
 
--- in the end the one image is open with the whole text
-abbrev pub IsReplaced : SlotState → List ℕ → DiskHistory → DiskHistory → Type 0
-IsReplaced state text old new = OneImage (BeginsAs state) old.now → OneImage (IsOpen [] text) new.now
+-- at each moment a slot of one image is as it was, or shut
+abbrev pub ClosesSlot : SlotState → DiskHistory → DiskHistory → Type 0
+ClosesSlot state old new = OneImage (BeginsAs state) old.now → LeavesOnly (IsOldOrShut old.now.seen) old new
+
+-- in the end the one image is shut
+abbrev pub IsClosed : SlotState → DiskHistory → DiskHistory → Type 0
+IsClosed state old new = OneImage (BeginsAs state) old.now → OneImage (IsShut []) new.now

@@ -2,18 +2,21 @@
 //! slot whole.
 //!
 //! - [`create_slot`] makes a slot without a checkpoint on an empty device.
-//! - [`Slots::attach`] reads two slots: what is open in each, a [`SlotInfo`], or the first damage. [`Slots::newest`] is
-//!   the one with more transactions; of equal ones, slot a.
+//! - [`Slots::read`] reads two slots: what is open in each, a [`SlotInfo`], or the first damage. [`Slots::newest`] is
+//!   the one with more transactions; of equal ones, slot a. [`SlotHeads::attach`] reads no more than which is the newest and
+//!   which segment of the log it names, for which no catalogue is needed, and [`Slots::attach`] the rest.
 //! - [`Slots::load_newest`] reads its tables into any [`Rows`](pac_tables::Rows).
 //! - [`Slots::save`] writes a checkpoint into the slot that isn't the newest; [`can_be_saved`] tests that each table
 //!   has at most [`MAX_SAVED_ROWS`] rows.
+//! - [`Slots::prepare`], [`Slots::close_older`] and [`Slots::publish`] do so in three steps, for a checkpoint that names the
+//!   segment after the active one.
 //!
 //! ```
 //! use pac_check::{Slots, create_slot};
 //!
 //! create_slot(&mut a)?;
 //! create_slot(&mut b)?;
-//! let mut slots = Slots::attach(alloc, cat, &mut a, &mut b)?;
+//! let mut slots = Slots::read(alloc, cat, &mut a, &mut b)?;
 //! slots.save(alloc, cat, rows, 1, 69, &mut a, &mut b)?; // after one transaction, with the log's gate byte at 69
 //! let newest = slots.newest(); // slot a, 1 transaction, 69
 //! ```
@@ -21,8 +24,9 @@
 //! A slot is a gate byte and, where that is 1, a checkpoint: the name `PACMSLT1`; the number of transactions and the
 //! offset of the log's gate byte after these, eight bytes each; the number of tables in two bytes; and for each table
 //! the number of its rows in eight bytes, and the rows by ascending keys, each its key and the values of its columns.
-//! Bytes after that are not looked at. A slot without a byte is closed. An open one is read in pieces, each byte once: none
-//! is held whole.
+//! Bytes after that are not looked at. A checkpoint of the later [`SlotForm`] has the name `PACMSLT2`, and one byte more before
+//! the number of tables, for the device of its segment: 0 or 1. A slot without a byte is closed. An open one is read in
+//! pieces, each byte once after the first few: none is held whole.
 //!
 //! At each moment of a save, after an error too, the other slot is as it was, and this one is as it was, closed, or has
 //! the whole checkpoint (`any_moment`, `other`); of a device without a byte nothing is said. `TooLarge` comes exactly
@@ -35,6 +39,7 @@ mod creation;
 mod damage;
 mod descent;
 mod errors;
+mod filling;
 mod head;
 mod info;
 mod items;
@@ -53,10 +58,10 @@ mod text;
 pub use creation::create_slot;
 pub use damage::{SlotDamageKind, SlotFault};
 pub use errors::{CreateSlotError, SaveError, SlotError};
-pub use head::Head;
+pub use head::{Head, SlotForm};
 pub use info::{SlotInfo, SlotName};
 pub use law::slots_are_clear;
 pub use limits::{MAX_SAVED_ROWS, MAX_SLOT_LEN};
 pub use savable::can_be_saved;
-pub use slots::Slots;
+pub use slots::{ReadyText, SlotHeads, Slots};
 pub use state::SlotState;

@@ -1,5 +1,5 @@
 // Reads one slot from its device.
-ghost use Rattle.std.specs.Prelude.{◌≡◌, ◌≢◌, [], ◌∷◌, ℕ, List, length, take, IfOk, IfSome, IsErrOf, None as IsOpen, OnOk, Err};
+ghost use Rattle.std.specs.Prelude.{◌≡◌, [], ◌∷◌, ℕ, length, take, IfOk, IsErrOf, MatchResult, OnOk, Ok, Err};
 ghost use Rattle.std.specs.FinMap as map;
 ghost use Rattle.pac_outside.specs.Causes.{one_more};
 ghost use Rattle.pac_outside.specs.Disk.{IfKnown};
@@ -8,20 +8,62 @@ ghost use Rattle.pac_check.specs.declared.damage.SlotDamageKind.{SlotDamageKind 
 ghost use Rattle.pac_check.specs.declared.head.Head.{Head as AHead};
 ghost use Rattle.pac_check.specs.declared.info.SlotName.{SlotName as ASlotName};
 ghost use Rattle.pac_check.specs.Kinds.{slot_fault};
-ghost use Rattle.pac_check.specs.Replacing.{BeginsAs};
-ghost use Rattle.pac_check.specs.SlotStates.{HoldsRows, IsSlot, OpensExactly, slot_read};
+ghost use Rattle.pac_check.specs.SlotStates.{HoldsRows, IsSlotFront, IsSlot, OpensExactly, front_read, slot_read};
 
 use crate::damage::error_in;
 use crate::descent::checkpoint_from;
+use crate::head::{FRONT_LEN, front_at};
 use crate::pieces::Pieces;
 use crate::taker::Passer;
-use crate::{SlotError, SlotName, SlotState};
+use crate::{SlotError, SlotFault, SlotName, SlotState};
 use pac_outside::{Disk, GATE_OPEN, read_piece};
 use pac_tables::Rows;
 use pac_types::Catalogue;
 use std::alloc::Global;
 
-/// What stands in a slot. Of one that is shut a byte is read, however long the device is; an open one is read in pieces, up
+/// What a slot begins with: of one that is shut no more than its gate byte is looked at, and of an open one what stands before the
+/// number of tables.
+///
+/// # Errors
+///
+/// A fault of the device, the first damage among these bytes, or `NoMemory`.
+pub(crate) fn front_of<D: Disk>(
+    alloc: Global,
+    slot: SlotName,
+    disk: &mut D,
+) -> Result<SlotState, SlotError>
+    ensures state { IfOk result (λ state. IfKnown (λ old. IsSlotFront state old.now.seen) (D.known disk.old)) }
+    ensures damaged { (name : ASlotName) (at : ℕ) (kind : ADamageKind) → IsErrOf result (SlotError.Damaged name at kind) → (name ≡ slot) × IfKnown (λ old. front_read old.now.seen ≡ Err (slot_fault kind at)) (D.known disk.old) }
+    ensures same { D.known disk.new ≡ D.known disk.old }
+    ensures counted { IsErrOf result SlotError.DiskFault → D.faults disk.new ≡ one_more (D.faults disk.old) }
+    ensures quiet { ¬ IsErrOf result SlotError.DiskFault → D.faults disk.new ≡ D.faults disk.old }
+{
+    let bytes = read_piece(alloc, disk, 0, 1 + FRONT_LEN)?;
+    match front_in(&bytes) {
+        Ok(state) => Ok(state),
+        Err(fault) => Err(SlotError::Damaged {
+            slot,
+            at: fault.at as u64,
+            kind: fault.kind,
+        }),
+    }
+}
+
+// The same, of these bytes.
+fn front_in(bytes: &[u8]) -> Result<SlotState, SlotFault>
+    ensures { MatchResult result (λ state. front_read bytes.now ≡ Ok state) (λ fault. front_read bytes.now ≡ Err fault) }
+{
+    match bytes.first() {
+        None => Ok(SlotState::Empty),
+        Some(&GATE_OPEN) => {
+            let (head, _) = front_at(bytes, 1)?;
+            Ok(SlotState::Open(head))
+        }
+        Some(_) => Ok(SlotState::Closed),
+    }
+}
+
+/// Whether what stands in a slot that begins so is whole. Of one that is shut nothing is read; an open one is read in pieces, up
 /// to the end of its checkpoint, and no row is kept.
 ///
 /// # Errors
@@ -31,31 +73,19 @@ pub(crate) fn look_at<D: Disk>(
     alloc: Global,
     cat: &Catalogue,
     slot: SlotName,
+    state: SlotState,
     disk: &mut D,
-) -> Result<SlotState, SlotError>
-    ensures state { IfOk result (λ state. IfKnown (λ old. IsSlot cat.now.tables state old.now.seen × OpensExactly cat.now.tables state old.now.seen) (D.known disk.old)) }
+) -> Result<(), SlotError>
+    requires { IfKnown (λ old. IsSlotFront state old.now.seen) (D.known disk.old) }
+    ensures state { OnOk result (IfKnown (λ old. IsSlot cat.now.tables state old.now.seen × OpensExactly cat.now.tables state old.now.seen) (D.known disk.old)) }
     ensures damaged { (name : ASlotName) (at : ℕ) (kind : ADamageKind) → IsErrOf result (SlotError.Damaged name at kind) → (name ≡ slot) × IfKnown (λ old. slot_read cat.now.tables old.now.seen ≡ Err (slot_fault kind at)) (D.known disk.old) }
     ensures same { D.known disk.new ≡ D.known disk.old }
     ensures counted { IsErrOf result SlotError.DiskFault → D.faults disk.new ≡ one_more (D.faults disk.old) }
     ensures quiet { ¬ IsErrOf result SlotError.DiskFault → D.faults disk.new ≡ D.faults disk.old }
 {
-    let gate = read_piece(alloc, disk, 0, 1)?;
-    match shut_state(&gate) {
-        Some(state) => Ok(state),
-        None => look_at_open(alloc, cat, slot, disk),
-    }
-}
-
-// What stands in a slot whose first byte, if it has one, is this. `None`: the gate is open.
-fn shut_state(gate: &[u8]) -> Option<SlotState>
-    ensures begins { IfSome result (λ state. (image : List ℕ) → gate.now ≡ take 1 image → BeginsAs state image) }
-    ensures shut { IfSome result (λ state. (head : AHead) → state ≢ SlotState.Open head) }
-    ensures is_open { (image : List ℕ) → gate.now ≡ take 1 image → result ≡ IsOpen → take 1 image ≡ 1 ∷ [] }
-{
-    match gate.first() {
-        None => Some(SlotState::Empty),
-        Some(&GATE_OPEN) => None,
-        Some(_) => Some(SlotState::Closed),
+    match state {
+        SlotState::Empty | SlotState::Closed => Ok(()),
+        SlotState::Open(_) => look_at_open(alloc, cat, slot, disk),
     }
 }
 
@@ -65,9 +95,9 @@ fn look_at_open<D: Disk>(
     cat: &Catalogue,
     slot: SlotName,
     disk: &mut D,
-) -> Result<SlotState, SlotError>
+) -> Result<(), SlotError>
     requires { IfKnown (λ old. take 1 old.now.seen ≡ 1 ∷ []) (D.known disk.old) }
-    ensures state { IfOk result (λ state. IfKnown (λ old. IsSlot cat.now.tables state old.now.seen × OpensExactly cat.now.tables state old.now.seen) (D.known disk.old)) }
+    ensures state { OnOk result (IfKnown (λ old. (head : AHead) × IsSlot cat.now.tables (SlotState.Open head) old.now.seen × OpensExactly cat.now.tables (SlotState.Open head) old.now.seen) (D.known disk.old)) }
     ensures damaged { (name : ASlotName) (at : ℕ) (kind : ADamageKind) → IsErrOf result (SlotError.Damaged name at kind) → (name ≡ slot) × IfKnown (λ old. slot_read cat.now.tables old.now.seen ≡ Err (slot_fault kind at)) (D.known disk.old) }
     ensures same { D.known disk.new ≡ D.known disk.old }
     ensures counted { IsErrOf result SlotError.DiskFault → D.faults disk.new ≡ one_more (D.faults disk.old) }
@@ -75,9 +105,32 @@ fn look_at_open<D: Disk>(
 {
     let mut pieces = Pieces::open(alloc, disk, 1)?;
     match checkpoint_from(alloc, cat.tables(), &mut pieces, disk, &mut Passer) {
-        Ok(head) => Ok(SlotState::Open(head)),
+        Ok(_) => Ok(()),
         Err(stop) => Err(error_in(slot, stop)),
     }
+}
+
+/// What stands in a slot. Of one that is shut no more than its gate byte is looked at; an open one is read in pieces, up to the
+/// end of its checkpoint, and no row is kept.
+///
+/// # Errors
+///
+/// Those of [`look_at`].
+pub(crate) fn read_slot<D: Disk>(
+    alloc: Global,
+    cat: &Catalogue,
+    slot: SlotName,
+    disk: &mut D,
+) -> Result<SlotState, SlotError>
+    ensures state { IfOk result (λ state. IfKnown (λ old. IsSlot cat.now.tables state old.now.seen × OpensExactly cat.now.tables state old.now.seen) (D.known disk.old)) }
+    ensures damaged { (name : ASlotName) (at : ℕ) (kind : ADamageKind) → IsErrOf result (SlotError.Damaged name at kind) → (name ≡ slot) × IfKnown (λ old. slot_read cat.now.tables old.now.seen ≡ Err (slot_fault kind at)) (D.known disk.old) }
+    ensures same { D.known disk.new ≡ D.known disk.old }
+    ensures counted { IsErrOf result SlotError.DiskFault → D.faults disk.new ≡ one_more (D.faults disk.old) }
+    ensures quiet { ¬ IsErrOf result SlotError.DiskFault → D.faults disk.new ≡ D.faults disk.old }
+{
+    let state = front_of(alloc, slot, disk)?;
+    look_at(alloc, cat, slot, state, disk)?;
+    Ok(state)
 }
 
 /// Reads the tables of an open slot into tables without rows.

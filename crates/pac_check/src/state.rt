@@ -26,6 +26,7 @@ impl SlotState {
                 slot,
                 txns: head.txns,
                 place: head.place,
+                segment: head.form.segment(),
             }),
         }
     }

@@ -11,12 +11,12 @@ ghost use Rattle.pac_bytes.specs.declared.values.TheConstants.{MAX_VALUE_LEN};
 ghost use Rattle.pac_value.specs.declared.limits.TheConstants.{MAX_COLUMNS};
 ghost use Rattle.pac_types.specs.Fits.{FitsCatalogue};
 ghost use Rattle.pac_check.specs.declared.limits.TheConstants.{MAX_SAVED_ROWS, MAX_SLOT_LEN};
-ghost use Rattle.pac_check.specs.declared.head.TheConstants.{HEAD_LEN};
+ghost use Rattle.pac_check.specs.declared.head.TheConstants.{MAX_HEAD_LEN};
 ghost use Rattle.pac_check.specs.declared.text.TheConstants.{MAX_ROW_LEN, MAX_TABLE_LEN};
 ghost use Rattle.pac_check.specs.Checkpoints.{IsCheckpoint, RowHasBytes, checkpoint_bytes, keyed_bytes, rows_bytes};
 ghost use Rattle.pac_check.specs.Saved.{checkpoint_of, table_rows, rows_of_tables};
 
-use crate::head::{HEAD_LEN, put_head};
+use crate::head::{MAX_HEAD_LEN, put_head};
 use crate::limits::ITEM_LEN;
 use crate::{Head, MAX_SAVED_ROWS, MAX_SLOT_LEN, SaveError};
 use pac_base::NoMemory;
@@ -39,6 +39,7 @@ const MAX_TABLE_LEN: u64 = 8 + MAX_SAVED_ROWS * MAX_ROW_LEN;
 ///
 /// - [`SaveError::TooLarge`] only where the text and a gate byte are more than 268,435,456 bytes.
 /// - [`SaveError::NoMemory`] where the text or a list of rows finds no room.
+#[tactic(auto, using(crate::proofs::WritingLemmas::checkpoint_long))]
 pub(crate) fn checkpoint_text<R: Rows>(
     alloc: Global,
     cat: &Catalogue,
@@ -56,39 +57,52 @@ pub(crate) fn checkpoint_text<R: Rows>(
 {
     let tables = cat.tables();
     let count = tables.len() as u16;
-    let mut text = Vec::with_capacity(alloc, HEAD_LEN as usize)?;
+    let mut text = Vec::with_capacity(alloc, MAX_HEAD_LEN as usize)?;
     put_head(&mut text, head, count)?;
-    put_tables(&mut text, count, rows)?;
+    put_tables(&mut text, head.form.head_len(), count, rows)?;
     Ok(text)
 }
 
-// Appends the first n tables, where they have room after a head in a slot.
-fn put_tables<R: Rows>(out: &mut Vec<u8>, count: u16, rows: &R) -> Result<(), SaveError>
+// Appends the first n tables, where they have room after a head of that many bytes in a slot.
+fn put_tables<R: Rows>(
+    out: &mut Vec<u8>,
+    head_len: u64,
+    count: u16,
+    rows: &R,
+) -> Result<(), SaveError>
+    requires head { head_len ≤ MAX_HEAD_LEN }
     requires within { count ≤ R.tables rows.now }
     requires few { (table : ℕ) → table < R.tables rows.now → length (keys_of (R.held rows.now) table) ≤ MAX_SAVED_ROWS }
     ensures bytes { OnOk result (Grew out.old.items out.new.items (flat_map rows_bytes (rows_of_tables (R.held rows.now) count))) }
     ensures form { OnOk result ((table : ℕ) → table < count → AllByRecursion RowHasBytes (table_rows (R.held rows.now) table)) }
-    ensures room { OnOk result (1 + (HEAD_LEN + length (flat_map rows_bytes (rows_of_tables (R.held rows.now) count))) ≤ MAX_SLOT_LEN) }
-    ensures too_large { (bytes : ℕ) → IsErrOf result (SaveError.TooLarge bytes) → (MAX_SLOT_LEN < bytes) × (bytes ≡ 1 + (HEAD_LEN + length (flat_map rows_bytes (rows_of_tables (R.held rows.now) count)))) }
+    ensures room { OnOk result (1 + (head_len + length (flat_map rows_bytes (rows_of_tables (R.held rows.now) count))) ≤ MAX_SLOT_LEN) }
+    ensures too_large { (bytes : ℕ) → IsErrOf result (SaveError.TooLarge bytes) → (MAX_SLOT_LEN < bytes) × (bytes ≡ 1 + (head_len + length (flat_map rows_bytes (rows_of_tables (R.held rows.now) count)))) }
     ensures only { ¬ IsErrOf result SaveError.DiskFault }
 {
-    let len = add_tables(out, count, rows)?;
+    let len = add_tables(out, head_len, count, rows)?;
     if len >= MAX_SLOT_LEN {
         return Err(SaveError::TooLarge { bytes: len + 1 });
     }
     Ok(())
 }
 
-// How many bytes a head and the first n tables have. The tables are appended up to the one with which they have no room in a slot.
-fn add_tables<R: Rows>(out: &mut Vec<u8>, count: u16, rows: &R) -> Result<u64, NoMemory>
+// How many bytes a head of that many and the first n tables have. The tables are appended up to the one with which they have no
+// room in a slot.
+fn add_tables<R: Rows>(
+    out: &mut Vec<u8>,
+    head_len: u64,
+    count: u16,
+    rows: &R,
+) -> Result<u64, NoMemory>
+    requires head { head_len ≤ MAX_HEAD_LEN }
     requires within { count ≤ R.tables rows.now }
     requires few { (table : ℕ) → table < R.tables rows.now → length (keys_of (R.held rows.now) table) ≤ MAX_SAVED_ROWS }
-    ensures exact { IfOk result (λ len. len ≡ HEAD_LEN + length (flat_map rows_bytes (rows_of_tables (R.held rows.now) count))) }
-    ensures few { IfOk result (λ len. len ≤ HEAD_LEN + MAX_TABLE_LEN * count) }
+    ensures exact { IfOk result (λ len. len ≡ head_len + length (flat_map rows_bytes (rows_of_tables (R.held rows.now) count))) }
+    ensures few { IfOk result (λ len. len ≤ MAX_HEAD_LEN + MAX_TABLE_LEN * count) }
     ensures bytes { IfOk result (λ len. len < MAX_SLOT_LEN → Grew out.old.items out.new.items (flat_map rows_bytes (rows_of_tables (R.held rows.now) count))) }
     ensures form { IfOk result (λ len. len < MAX_SLOT_LEN → (table : ℕ) → table < count → AllByRecursion RowHasBytes (table_rows (R.held rows.now) table)) }
 {
-    let mut len = HEAD_LEN;
+    let mut len = head_len;
     for table in 0..count {
         len = add_table(out, len, table, rows)?;
     }
@@ -99,7 +113,7 @@ fn add_tables<R: Rows>(out: &mut Vec<u8>, count: u16, rows: &R) -> Result<u64, N
 fn add_table<R: Rows>(out: &mut Vec<u8>, before: u64, table: u16, rows: &R) -> Result<u64, NoMemory>
     requires within { table < R.tables rows.now }
     requires few { length (keys_of (R.held rows.now) table) ≤ MAX_SAVED_ROWS }
-    requires so_far { before ≤ HEAD_LEN + MAX_TABLE_LEN * 65536 }
+    requires so_far { before ≤ MAX_HEAD_LEN + MAX_TABLE_LEN * 65536 }
     ensures exact { IfOk result (λ len. len ≡ before + length (rows_bytes (table_rows (R.held rows.now) table))) }
     ensures few { IfOk result (λ len. len ≤ before + MAX_TABLE_LEN) }
     ensures bytes { IfOk result (λ len. len < MAX_SLOT_LEN → Grew out.old.items out.new.items (rows_bytes (table_rows (R.held rows.now) table))) }

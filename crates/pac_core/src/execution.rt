@@ -10,14 +10,13 @@ ghost use Rattle.pac_commute.specs.PlanLaws.{NumbersRunOn, txns_of};
 ghost use Rattle.pac_core.specs.Calls.{IsReplayDone, IsReplayOutcome, with_batches};
 ghost use Rattle.pac_core.specs.Replay.{closed, opening_replay};
 ghost use Rattle.pac_core.specs.FedExecution.{IsExecutedFeed};
-ghost use Rattle.pac_workers.specs.Fed.{HasGiven};
+ghost use Rattle.pac_workers.specs.Fed.{HasFed};
 
 use crate::answers::Outcome;
 use crate::replay::Core;
 use pac_base::{Listed, NoMemory};
 use pac_keys::PlanCode;
-use pac_ops::{Batches, Note};
-use pac_outside::Gate;
+use pac_ops::{Batches, Gate, Note};
 use pac_plan::{Plan, Shared};
 use pac_tables::Rows;
 use pac_workers::{Feed, Replayed, replay, replay_feed};
@@ -93,10 +92,10 @@ pub fn execute_feed<R: Rows + Send, F: Feed, G: Gate + Sync, H: Threads + Wait +
     requires fit { RowsFit plan.tables (R.held tables) }
     requires next { F.next_txn feed.old ≡ first }
     requires types { (F.params feed.old ≡ map (λ program. program.params) plan.programs) × (F.tables feed.old ≡ plan.tables) }
-    ensures given { (batches : List ABatch) × HasGiven F.so_far F.gives feed.old batches feed.new }
+    ensures given { (batches : List ABatch) × HasFed F.so_far F.gives feed.old batches feed.new }
     ensures tables { IfOk result (λ e. R.tables e.tables ≡ length plan.tables) }
     ensures fit { IfOk result (λ e. RowsFit plan.tables (R.held e.tables)) }
-    ensures executed { IfOk result (λ e. IsExecutedFeed (HasGiven F.so_far F.gives) (record { parts = plan; first = first; tables = R.held tables }) feed.old feed.new (R.held e.tables) e.first_note (sum e.tallies + e.drained)) }
+    ensures executed { IfOk result (λ e. IsExecutedFeed (HasFed F.so_far F.gives) (record { parts = plan; first = first; tables = R.held tables }) feed.old feed.new (R.held e.tables) e.first_note (sum e.tallies + e.drained)) }
     ensures tallies { IfOk result (λ e. length e.tallies ≡ workers) }
     ensures over { OnOk result (F.is_over feed.new ≡ true) }
     ensures same_types { (F.params feed.new ≡ F.params feed.old) × (F.tables feed.new ≡ F.tables feed.old) }

@@ -6,6 +6,7 @@ use Rattle.pac_outside.specs.GateByte.{OneImage}
 use Rattle.pac_outside.proofs.Histories.{stays}
 use Rattle.pac_outside.proofs.Images.{one_image}
 use Rattle.pac_types.specs.Typing.{CatalogueState}
+use Rattle.pac_log.specs.declared.header.Header.{Header}
 use Rattle.pac_log.specs.declared.position.NextGate.{NextGate}
 use Rattle.pac_log.specs.Bodies.{body_bytes}
 use Rattle.pac_log.specs.Gates.{gate_after}
@@ -21,9 +22,9 @@ one_leaves P Q f state one image is = subst Q (sym (one_image state.seen image (
 pub rests : (P Q : List ℕ → Type 0) → ((image : List ℕ) → P image → Q image) → (h : DiskHistory) → OneImage P h.now → LeavesOnly Q h h
 rests P Q f h one = stays Q h (one_leaves P Q f h.now one)
 
-pub nothing_added : (text : List ℕ) (catalogue : CatalogueState) (batches : List (List Txn)) (txns : List Txn) (known : Option DiskHistory) → BothKnown (MayAdd text catalogue batches txns) known known
-nothing_added text catalogue batches txns None = tt
-nothing_added text catalogue batches txns (Some h) = λ one. rests (HoldsLog text catalogue batches) (λ image. HoldsLog text catalogue batches image ⊎ HoldsLog text catalogue (with_batch batches txns) image) (λ image holds. inl holds) h one
+pub nothing_added : (header : Header) (catalogue : CatalogueState) (batches : List (List Txn)) (txns : List Txn) (known : Option DiskHistory) → BothKnown (MayAdd header catalogue batches txns) known known
+nothing_added header catalogue batches txns None = tt
+nothing_added header catalogue batches txns (Some h) = λ one. rests (HoldsLog header catalogue batches) (λ image. HoldsLog header catalogue batches image ⊎ HoldsLog header catalogue (with_batch batches txns) image) (λ image holds. inl holds) h one
 
 with_some : (batches : List (List Txn)) (txns : List Txn) → 0 < length txns → with_batch batches txns ≡ batches ++ txns ∷ []
 with_some batches [] some = absurd (omega (arith, some))
@@ -33,19 +34,19 @@ pub some_gate : (txns : List Txn) (old now new : NextGate) → 0 < length txns �
 some_gate [] old now new some same is = absurd (omega (arith, some))
 some_gate (txn ∷ txns) old now new some same is = is ∙ ap (λ (g : NextGate). gate_past (txn ∷ txns) g) same
 
-module _ (text : List ℕ) (batches : List (List Txn)) (txns : List Txn) (some : 0 < length txns) (old now : NextGate) (same : now ≡ old) where
-  pub may_add : (a b : Option DiskHistory) → BothKnown (KeepsOrAdds text now.catalogue batches txns) a b → BothKnown (MayAdd text old.catalogue batches txns) a b
+module _ (header : Header) (batches : List (List Txn)) (txns : List Txn) (some : 0 < length txns) (old now : NextGate) (same : now ≡ old) where
+  pub may_add : (a b : Option DiskHistory) → BothKnown (KeepsOrAdds header now.catalogue batches txns) a b → BothKnown (MayAdd header old.catalogue batches txns) a b
   may_add a b known =
-      subst (λ (g : NextGate). BothKnown (MayAdd text g.catalogue batches txns) a b) same
-      (subst (λ (bs : List (List Txn)). BothKnown (λ x y. OneImage (HoldsLog text now.catalogue batches) x.now → LeavesOnly (λ image. HoldsLog text now.catalogue batches image ⊎ HoldsLog text now.catalogue bs image) x y) a b) (sym (with_some batches txns some)) known)
+      subst (λ (g : NextGate). BothKnown (MayAdd header g.catalogue batches txns) a b) same
+      (subst (λ (bs : List (List Txn)). BothKnown (λ x y. OneImage (HoldsLog header now.catalogue batches) x.now → LeavesOnly (λ image. HoldsLog header now.catalogue batches image ⊎ HoldsLog header now.catalogue bs image) x y) a b) (sym (with_some batches txns some)) known)
 
-  pub has_added : (a b : Option DiskHistory) → BothKnown (AddsBatch text now.catalogue batches txns) a b → BothKnown (HasAdded text old.catalogue batches txns) a b
+  pub has_added : (a b : Option DiskHistory) → BothKnown (AddsBatch header now.catalogue batches txns) a b → BothKnown (HasAdded header old.catalogue batches txns) a b
   has_added a b known =
-      subst (λ (g : NextGate). BothKnown (HasAdded text g.catalogue batches txns) a b) same
-      (subst (λ (bs : List (List Txn)). BothKnown (λ x y. OneImage (HoldsLog text now.catalogue batches) x.now → OneImage (HoldsLog text now.catalogue bs) y.now) a b) (sym (with_some batches txns some)) known)
+      subst (λ (g : NextGate). BothKnown (HasAdded header g.catalogue batches txns) a b) same
+      (subst (λ (bs : List (List Txn)). BothKnown (λ x y. OneImage (HoldsLog header now.catalogue batches) x.now → OneImage (HoldsLog header now.catalogue bs) y.now) a b) (sym (with_some batches txns some)) known)
 
-  pub still_after : IsAfter text batches old → IsAfter text batches now
-  still_after is = subst (λ (g : NextGate). IsAfter text batches g) (sym same) is
+  pub still_after : IsAfter header batches old → IsAfter header batches now
+  still_after is = subst (λ (g : NextGate). IsAfter header batches g) (sym same) is
 
-  pub after_some : (new : NextGate) → IsAfter text (batches ++ txns ∷ []) new → IsAfter text (with_batch batches txns) new
-  after_some new is = subst (λ (bs : List (List Txn)). IsAfter text bs new) (sym (with_some batches txns some)) is
+  pub after_some : (new : NextGate) → IsAfter header (batches ++ txns ∷ []) new → IsAfter header (with_batch batches txns) new
+  after_some new is = subst (λ (bs : List (List Txn)). IsAfter header bs new) (sym (with_some batches txns some)) is

@@ -12,14 +12,18 @@ use Rattle.pac_outside.proofs.Runs.{three, run_end}
 use Rattle.pac_outside.specs.declared.devices.Devices.{Devices}
 use Rattle.pac_types.specs.Fits.{FitTables}
 use Rattle.pac_types.specs.Typing.{CatalogueState}
+use Rattle.pac_log.specs.declared.header.Header.{Header}
+use Rattle.pac_log.specs.declared.header.HeaderForm.TheVariants.{First}
+use Rattle.pac_log.specs.Logs.{header_with}
 use Rattle.pac_log.specs.declared.position.NextGate.{NextGate}
 use Rattle.pac_log.specs.Places.{IsAfter}
 use Rattle.pac_check.specs.declared.info.SlotName.{SlotName}
 use Rattle.pac_check.specs.declared.info.SlotName.TheVariants.{A, B}
 use Rattle.pac_check.specs.declared.slots.Slots.{Slots}
 use Rattle.pac_check.specs.declared.state.SlotState.TheVariants.{Open}
-use Rattle.pac_check.specs.Checkpoints.{IsCheckpoint, checkpoint_bytes, head_with}
-use Rattle.pac_check.specs.Replacing.{HasByte, IsOldShutOrNew}
+use Rattle.pac_check.specs.Checkpoints.{IsCheckpoint, checkpoint_bytes, first_head}
+use Rattle.pac_check.specs.Filling.{IsOldShutOrNew}
+use Rattle.pac_check.specs.Replacing.{HasByte}
 use Rattle.pac_check.specs.Saved.{checkpoint_of}
 use Rattle.pac_check.specs.SlotStates.{HoldsRows, by_slot, spare_of}
 use Rattle.pac_engine.specs.declared.parts.EngineParts.{EngineParts}
@@ -31,47 +35,47 @@ use Rattle.pac_engine.proofs.StandingLemmas.{commit-fails, commit-keeps, commit-
 use Rattle.pac_engine.proofs.SavingLemmas.{has-byte, save-a-run, save-a-stands, save-b-run, save-b-stands}
 
 -- what is said of each list of batches holds of all of them at once
-all-report : (R : List ℕ → List (List Txn) → DiskHistory → DiskHistory → Type 0) (gate : NextGate) (l n : Option DiskHistory) → ((text : List ℕ) (batches : List (List Txn)) → IsAfter text batches gate → BothKnown (R text batches) l n)
-    → (text : List ℕ) (batches : List (List Txn)) → IsAfter text batches gate → BothKnown (λ x y. (t : List ℕ) (bs : List (List Txn)) → IsAfter t bs gate → R t bs x y) l n
-all-report R gate None None f text batches is = tt
-all-report R gate None (Some n) f text batches is = f text batches is
-all-report R gate (Some l) None f text batches is = f text batches is
-all-report R gate (Some l) (Some n) f text batches is = λ t bs after. f t bs after
+all-report : (R : Header → List (List Txn) → DiskHistory → DiskHistory → Type 0) (gate : NextGate) (l n : Option DiskHistory) → ((header : Header) (batches : List (List Txn)) → IsAfter header batches gate → BothKnown (R header batches) l n)
+    → (header : Header) (batches : List (List Txn)) → IsAfter header batches gate → BothKnown (λ x y. (h : Header) (bs : List (List Txn)) → IsAfter h bs gate → R h bs x y) l n
+all-report R gate None None f header batches is = tt
+all-report R gate None (Some n) f header batches is = f header batches is
+all-report R gate (Some l) None f header batches is = f header batches is
+all-report R gate (Some l) (Some n) f header batches is = λ t bs after. f t bs after
 
 -- ---- a commit
 
 module _ (text : List ℕ) (history : List Txn) (e : EngineParts) (same : e.log.gate.catalogue ≡ e.session.catalogue) (txns : List Txn) (txns_is : txns ≡ e.session.txns) (l n a b : Option DiskHistory) where
-  may-here : (batches : List (List Txn)) (x y : DiskHistory) → MayAdd text e.log.gate.catalogue batches txns x y → MayAdd text e.session.catalogue batches e.session.txns x y
-  may-here batches x y may = subst (λ (t : List Txn). MayAdd text e.session.catalogue batches t x y) txns_is (subst (λ (c : CatalogueState). MayAdd text c batches txns x y) same may)
+  may-here : (batches : List (List Txn)) (x y : DiskHistory) → MayAdd (header_with First text) e.log.gate.catalogue batches txns x y → MayAdd (header_with First text) e.session.catalogue batches e.session.txns x y
+  may-here batches x y may = subst (λ (t : List Txn). MayAdd (header_with First text) e.session.catalogue batches t x y) txns_is (subst (λ (c : CatalogueState). MayAdd (header_with First text) c batches txns x y) same may)
 
-  added-here : (batches : List (List Txn)) (x y : DiskHistory) → HasAdded text e.log.gate.catalogue batches txns x y → HasAdded text e.session.catalogue batches e.session.txns x y
-  added-here batches x y added = subst (λ (t : List Txn). HasAdded text e.session.catalogue batches t x y) txns_is (subst (λ (c : CatalogueState). HasAdded text c batches txns x y) same added)
+  added-here : (batches : List (List Txn)) (x y : DiskHistory) → HasAdded (header_with First text) e.log.gate.catalogue batches txns x y → HasAdded (header_with First text) e.session.catalogue batches e.session.txns x y
+  added-here batches x y added = subst (λ (t : List Txn). HasAdded (header_with First text) e.session.catalogue batches t x y) txns_is (subst (λ (c : CatalogueState). HasAdded (header_with First text) c batches txns x y) same added)
 
-  module _ (may : (t : List ℕ) (bs : List (List Txn)) → IsAfter t bs e.log.gate → BothKnown (MayAdd t e.log.gate.catalogue bs txns) l n) where
+  module _ (may : (t : Header) (bs : List (List Txn)) → IsAfter t bs e.log.gate → BothKnown (MayAdd t e.log.gate.catalogue bs txns) l n) where
     abbrev MayAll : DiskHistory → DiskHistory → Type 0
-    MayAll x y = (t : List ℕ) (bs : List (List Txn)) → IsAfter t bs e.log.gate → MayAdd t e.log.gate.catalogue bs txns x y
+    MayAll x y = (t : Header) (bs : List (List Txn)) → IsAfter t bs e.log.gate → MayAdd t e.log.gate.catalogue bs txns x y
 
     pub closed-fails : (now : EngineParts) → durable_of now ≡ durable_of e → saved_of now ≡ saved_of e → WhileAllKnown (StandsOn text history e) (KeepsHistory text (history ++ []) e now) (three l a b) (three n a b)
     closed-fails now durable saved = one-known (StandsOn text history e) (KeepsHistory text (history ++ []) e now) MayAll the_log
-        (λ d y is all. subst (λ (h : List Txn). KeepsHistory text h e now d (with_device the_log y d)) (sym (append-nil history)) (commit-fails text history e d.log d.slot_a d.slot_b is y (may-here is.batches d.log y (all text is.batches is.after)) now durable saved))
-        (three l a b) n (λ d is. all-report (λ t bs x y. MayAdd t e.log.gate.catalogue bs txns x y) e.log.gate l n may text is.batches is.after)
+        (λ d y is all. subst (λ (h : List Txn). KeepsHistory text h e now d (with_device the_log y d)) (sym (append-nil history)) (commit-fails text history e d.log d.slot_a d.slot_b is y (may-here is.batches d.log y (all (header_with First text) is.batches is.after)) now durable saved))
+        (three l a b) n (λ d is. all-report (λ t bs x y. MayAdd t e.log.gate.catalogue bs txns x y) e.log.gate l n may (header_with First text) is.batches is.after)
 
-    module _ (added : (t : List ℕ) (bs : List (List Txn)) → IsAfter t bs e.log.gate → BothKnown (HasAdded t e.log.gate.catalogue bs txns) l n)
-        (gate : NextGate) (after : (t : List ℕ) (bs : List (List Txn)) → IsAfter t bs e.log.gate → IsAfter t (with_batch bs txns) gate) (gate_is : gate ≡ gate_past txns e.log.gate) (now : EngineParts) (becomes : now ≡ committed_parts e) where
+    module _ (added : (t : Header) (bs : List (List Txn)) → IsAfter t bs e.log.gate → BothKnown (HasAdded t e.log.gate.catalogue bs txns) l n)
+        (gate : NextGate) (after : (t : Header) (bs : List (List Txn)) → IsAfter t bs e.log.gate → IsAfter t (with_batch bs txns) gate) (gate_is : gate ≡ gate_past txns e.log.gate) (now : EngineParts) (becomes : now ≡ committed_parts e) where
       abbrev AddsAll : DiskHistory → DiskHistory → Type 0
-      AddsAll x y = (t : List ℕ) (bs : List (List Txn)) → IsAfter t bs e.log.gate → MayAdd t e.log.gate.catalogue bs txns x y × HasAdded t e.log.gate.catalogue bs txns x y
+      AddsAll x y = (t : Header) (bs : List (List Txn)) → IsAfter t bs e.log.gate → MayAdd t e.log.gate.catalogue bs txns x y × HasAdded t e.log.gate.catalogue bs txns x y
 
-      after-here : (batches : List (List Txn)) → IsAfter text batches e.log.gate → IsAfter text (with_batch batches e.session.txns) (gate_past e.session.txns e.log.gate)
-      after-here batches is = subst (λ (t : List Txn). IsAfter text (with_batch batches t) (gate_past t e.log.gate)) txns_is (subst (λ (g : NextGate). IsAfter text (with_batch batches txns) g) gate_is (after text batches is))
+      after-here : (batches : List (List Txn)) → IsAfter (header_with First text) batches e.log.gate → IsAfter (header_with First text) (with_batch batches e.session.txns) (gate_past e.session.txns e.log.gate)
+      after-here batches is = subst (λ (t : List Txn). IsAfter (header_with First text) (with_batch batches t) (gate_past t e.log.gate)) txns_is (subst (λ (g : NextGate). IsAfter (header_with First text) (with_batch batches txns) g) gate_is (after (header_with First text) batches is))
 
       both-report : (d : Devices DiskHistory) → StandsOn text history e d → BothKnown AddsAll l n
       both-report d is = all-report (λ t bs x y. MayAdd t e.log.gate.catalogue bs txns x y × HasAdded t e.log.gate.catalogue bs txns x y) e.log.gate l n
-          (λ t bs b. both_and (MayAdd t e.log.gate.catalogue bs txns) (HasAdded t e.log.gate.catalogue bs txns) l n (may t bs b) (added t bs b)) text is.batches is.after
+          (λ t bs b. both_and (MayAdd t e.log.gate.catalogue bs txns) (HasAdded t e.log.gate.catalogue bs txns) l n (may t bs b) (added t bs b)) (header_with First text) is.batches is.after
 
       pub closed-keeps : WhileAllKnown (StandsOn text history e) (KeepsHistory text (history ++ []) e now) (three l a b) (three n a b)
       closed-keeps = one-known (StandsOn text history e) (KeepsHistory text (history ++ []) e now) AddsAll the_log
           (λ d y is all.
-          let facts = all text is.batches is.after in
+          let facts = all (header_with First text) is.batches is.after in
           subst (λ (p : EngineParts). KeepsHistory text (history ++ []) e p d (with_device the_log y d)) (sym becomes)
           (subst (λ (h : List Txn). KeepsHistory text h e (committed_parts e) d (with_device the_log y d)) (sym (append-nil history))
           (commit-keeps text history e d.log d.slot_a d.slot_b is y (may-here is.batches d.log y facts.0) (added-here is.batches d.log y facts.1) (after-here is.batches is.after))))
@@ -80,7 +84,7 @@ module _ (text : List ℕ) (history : List Txn) (e : EngineParts) (same : e.log.
       pub closed-stands : WhileAllKnown (StandsOn text history e) (λ was is. StandsOn text (history ++ []) now is) (three l a b) (three n a b)
       closed-stands = one-known (StandsOn text history e) (λ was is. StandsOn text (history ++ []) now is) AddsAll the_log
           (λ d y is all.
-          let facts = all text is.batches is.after in
+          let facts = all (header_with First text) is.batches is.after in
           subst (λ (p : EngineParts). StandsOn text (history ++ []) p (with_device the_log y d)) (sym becomes)
           (subst (λ (h : List Txn). StandsOn text h (committed_parts e) (with_device the_log y d)) (sym (append-nil history))
           (commit-stands text history e d.log d.slot_a d.slot_b is y (may-here is.batches d.log y facts.0) (added-here is.batches d.log y facts.1) (after-here is.batches is.after))))
@@ -89,22 +93,22 @@ module _ (text : List ℕ) (history : List Txn) (e : EngineParts) (same : e.log.
 -- ---- a checkpoint
 
 abbrev pub new_bytes : EngineParts → List ℕ
-new_bytes e = checkpoint_bytes (checkpoint_of (length e.session.catalogue.tables) (head_with e.log.gate.txns e.log.gate.place) e.session.tables)
+new_bytes e = checkpoint_bytes (checkpoint_of (length e.session.catalogue.tables) (first_head e.log.gate.txns e.log.gate.place) e.session.tables)
 
 abbrev pub Replacing : EngineParts → DiskHistory → DiskHistory → Type 0
 Replacing e old new = LeavesOnly (IsOldShutOrNew old.now.seen (new_bytes e)) old new
 
 abbrev pub NewIn : EngineParts → DiskHistory → DiskHistory → Type 0
-NewIn e old new = OneImage (HoldsRows e.session.catalogue.tables (head_with e.log.gate.txns e.log.gate.place) e.session.tables) new.now
+NewIn e old new = OneImage (HoldsRows e.session.catalogue.tables (first_head e.log.gate.txns e.log.gate.place) e.session.tables) new.now
 
-saved-a : (e : EngineParts) → spare_of e.slots ≡ A → record e { slots = record (e.slots) { a = Open (head_with e.log.gate.txns e.log.gate.place) } } ≡ saved_parts e
-saved-a e is = ap (λ (s : SlotName). with_slots (by_slot s (record (e.slots) { a = Open (head_with e.log.gate.txns e.log.gate.place) }) (record (e.slots) { b = Open (head_with e.log.gate.txns e.log.gate.place) }))) (sym is)
+saved-a : (e : EngineParts) → spare_of e.slots ≡ A → record e { slots = record (e.slots) { a = Open (first_head e.log.gate.txns e.log.gate.place) } } ≡ saved_parts e
+saved-a e is = ap (λ (s : SlotName). with_slots (by_slot s (record (e.slots) { a = Open (first_head e.log.gate.txns e.log.gate.place) }) (record (e.slots) { b = Open (first_head e.log.gate.txns e.log.gate.place) }))) (sym is)
   where
     with_slots : Slots → EngineParts
     with_slots slots = record e { slots = slots }
 
-saved-b : (e : EngineParts) → spare_of e.slots ≡ B → record e { slots = record (e.slots) { b = Open (head_with e.log.gate.txns e.log.gate.place) } } ≡ saved_parts e
-saved-b e is = ap (λ (s : SlotName). with_slots (by_slot s (record (e.slots) { a = Open (head_with e.log.gate.txns e.log.gate.place) }) (record (e.slots) { b = Open (head_with e.log.gate.txns e.log.gate.place) }))) (sym is)
+saved-b : (e : EngineParts) → spare_of e.slots ≡ B → record e { slots = record (e.slots) { b = Open (first_head e.log.gate.txns e.log.gate.place) } } ≡ saved_parts e
+saved-b e is = ap (λ (s : SlotName). with_slots (by_slot s (record (e.slots) { a = Open (first_head e.log.gate.txns e.log.gate.place) }) (record (e.slots) { b = Open (first_head e.log.gate.txns e.log.gate.place) }))) (sym is)
   where
     with_slots : Slots → EngineParts
     with_slots slots = record e { slots = slots }
@@ -113,7 +117,7 @@ module _ (text : List ℕ) (history : List Txn) (e : EngineParts) (none : e.sess
     (any : HasByte (by_slot (spare_of e.slots) e.slots.a e.slots.b) → BothKnown (Replacing e) (by_slot (spare_of e.slots) a b) (by_slot (spare_of e.slots) a' b'))
     (other : by_slot (spare_of e.slots) b' a' ≡ by_slot (spare_of e.slots) b a) where
   abbrev Form : Type 0
-  Form = IsCheckpoint e.session.catalogue.tables (checkpoint_of (length e.session.catalogue.tables) (head_with e.log.gate.txns e.log.gate.place) e.session.tables)
+  Form = IsCheckpoint e.session.catalogue.tables (checkpoint_of (length e.session.catalogue.tables) (first_head e.log.gate.txns e.log.gate.place) e.session.tables)
 
   byte-a : (d : Devices DiskHistory) → StandsOn text history e d → HasByte e.slots.a
   byte-a d is = has-byte text e.session.catalogue is.batches e.slots.a d.slot_a.now.seen is.slot_a.has is.known_a

@@ -14,8 +14,9 @@ use Rattle.pac_types.specs.Typing.{CatalogueState}
 use Rattle.pac_check.specs.declared.errors.SaveError.{SaveError}
 use Rattle.pac_check.specs.declared.errors.SaveError.TheVariants as save
 use Rattle.pac_check.specs.declared.slots.Slots.{Slots}
-use Rattle.pac_check.specs.Checkpoints.{Checkpoint, IsCheckpoint, checkpoint_bytes, head_with}
-use Rattle.pac_check.specs.Replacing.{HasByte, IsOldShutOrNew}
+use Rattle.pac_check.specs.Checkpoints.{Checkpoint, IsCheckpoint, checkpoint_bytes, first_head}
+use Rattle.pac_check.specs.Filling.{IsOldShutOrNew}
+use Rattle.pac_check.specs.Replacing.{HasByte}
 use Rattle.pac_check.specs.Saved.{checkpoint_of}
 use Rattle.pac_check.specs.SlotStates.{HoldsCheckpoint, HoldsRows, by_slot, spare_of}
 use Rattle.pac_engine.specs.declared.parts.EngineParts.{EngineParts}
@@ -56,24 +57,24 @@ few-rows limit most tables count held rows none counted same le table below =
 
 module _ (e : EngineParts) (catalogue : CatalogueState) (txns place : ℕ) (held : Tables)
     (same_catalogue : catalogue ≡ e.session.catalogue) (same_txns : txns ≡ e.log.gate.txns) (same_place : place ≡ e.log.gate.place) (same_held : held ≡ e.session.tables) where
-  pub same-checkpoint : checkpoint_of (length catalogue.tables) (head_with txns place) held ≡ checkpoint_of (length e.session.catalogue.tables) (head_with e.log.gate.txns e.log.gate.place) e.session.tables
+  pub same-checkpoint : checkpoint_of (length catalogue.tables) (first_head txns place) held ≡ checkpoint_of (length e.session.catalogue.tables) (first_head e.log.gate.txns e.log.gate.place) e.session.tables
   same-checkpoint =
-      ap (λ (c : CatalogueState). checkpoint_of (length c.tables) (head_with txns place) held) same_catalogue
-      ∙ ap (λ (n : ℕ). checkpoint_of (length e.session.catalogue.tables) (head_with n place) held) same_txns
-      ∙ ap (λ (p : ℕ). checkpoint_of (length e.session.catalogue.tables) (head_with e.log.gate.txns p) held) same_place
-      ∙ ap (λ (t : Tables). checkpoint_of (length e.session.catalogue.tables) (head_with e.log.gate.txns e.log.gate.place) t) same_held
+      ap (λ (c : CatalogueState). checkpoint_of (length c.tables) (first_head txns place) held) same_catalogue
+      ∙ ap (λ (n : ℕ). checkpoint_of (length e.session.catalogue.tables) (first_head n place) held) same_txns
+      ∙ ap (λ (p : ℕ). checkpoint_of (length e.session.catalogue.tables) (first_head e.log.gate.txns p) held) same_place
+      ∙ ap (λ (t : Tables). checkpoint_of (length e.session.catalogue.tables) (first_head e.log.gate.txns e.log.gate.place) t) same_held
 
-  pub form-here : IsCheckpoint catalogue.tables (checkpoint_of (length catalogue.tables) (head_with txns place) held)
-      → IsCheckpoint e.session.catalogue.tables (checkpoint_of (length e.session.catalogue.tables) (head_with e.log.gate.txns e.log.gate.place) e.session.tables)
-  form-here form = subst (λ (k : Checkpoint). IsCheckpoint e.session.catalogue.tables k) same-checkpoint (subst (λ (c : CatalogueState). IsCheckpoint c.tables (checkpoint_of (length catalogue.tables) (head_with txns place) held)) same_catalogue form)
+  pub form-here : IsCheckpoint catalogue.tables (checkpoint_of (length catalogue.tables) (first_head txns place) held)
+      → IsCheckpoint e.session.catalogue.tables (checkpoint_of (length e.session.catalogue.tables) (first_head e.log.gate.txns e.log.gate.place) e.session.tables)
+  form-here form = subst (λ (k : Checkpoint). IsCheckpoint e.session.catalogue.tables k) same-checkpoint (subst (λ (c : CatalogueState). IsCheckpoint c.tables (checkpoint_of (length catalogue.tables) (first_head txns place) held)) same_catalogue form)
 
-  pub any-here : (H : Type 0) (old new : Option DiskHistory) → (H → BothKnown (λ o n. LeavesOnly (IsOldShutOrNew o.now.seen (checkpoint_bytes (checkpoint_of (length catalogue.tables) (head_with txns place) held))) o n) old new)
+  pub any-here : (H : Type 0) (old new : Option DiskHistory) → (H → BothKnown (λ o n. LeavesOnly (IsOldShutOrNew o.now.seen (checkpoint_bytes (checkpoint_of (length catalogue.tables) (first_head txns place) held))) o n) old new)
       → H → BothKnown (Replacing e) old new
   any-here H old new any = subst (λ (k : Checkpoint). H → BothKnown (λ o n. LeavesOnly (IsOldShutOrNew o.now.seen (checkpoint_bytes k)) o n) old new) same-checkpoint any
 
-  pub done-here : (old new : Option DiskHistory) → BothKnown (λ o n. OneImage (HoldsRows catalogue.tables (head_with txns place) held) n.now) old new → BothKnown (NewIn e) old new
+  pub done-here : (old new : Option DiskHistory) → BothKnown (λ o n. OneImage (HoldsRows catalogue.tables (first_head txns place) held) n.now) old new → BothKnown (NewIn e) old new
   done-here old new done = subst (λ (k : Checkpoint). BothKnown (λ o n. OneImage (HoldsCheckpoint e.session.catalogue.tables k) n.now) old new) same-checkpoint
-      (subst (λ (c : CatalogueState). BothKnown (λ o n. OneImage (HoldsCheckpoint c.tables (checkpoint_of (length catalogue.tables) (head_with txns place) held)) n.now) old new) same_catalogue done)
+      (subst (λ (c : CatalogueState). BothKnown (λ o n. OneImage (HoldsCheckpoint c.tables (checkpoint_of (length catalogue.tables) (first_head txns place) held)) n.now) old new) same_catalogue done)
 
 -- ---- a save that fails
 
@@ -88,7 +89,7 @@ pub save-fails : (text : List ℕ) (history : List Txn) (e : EngineParts) → e.
     → (HasByte (by_slot (spare_of e.slots) e.slots.a e.slots.b) → BothKnown (Replacing e) (by_slot (spare_of e.slots) a b) (by_slot (spare_of e.slots) a' b'))
     → by_slot (spare_of e.slots) b' a' ≡ by_slot (spare_of e.slots) b a
     → (cause : SaveError) (slots : Slots)
-    → (cause ≡ save.DiskFault → IsCheckpoint e.session.catalogue.tables (checkpoint_of (length e.session.catalogue.tables) (head_with e.log.gate.txns e.log.gate.place) e.session.tables) × (slots ≡ record { a = e.slots.a; b = e.slots.b; has_failed = true }))
+    → (cause ≡ save.DiskFault → IsCheckpoint e.session.catalogue.tables (checkpoint_of (length e.session.catalogue.tables) (first_head e.log.gate.txns e.log.gate.place) e.session.tables) × (slots ≡ record (e.slots) { has_failed = true }))
     → ((cause ≡ save.DiskFault → ⊥) → (slots ≡ e.slots) × (a' ≡ a) × (b' ≡ b))
     → WhileAllKnown (StandsOn text history e) (KeepsHistory text (history ++ []) e (record e { slots = slots })) (three l a b) (three l a' b')
 save-fails text history e none fit l a b a' b' any other save.DiskFault slots failed refused =

@@ -13,7 +13,9 @@ use Rattle.pac_outside.proofs.Histories.{weaken}
 use Rattle.pac_types.specs.declared.table.Table.{Table}
 use Rattle.pac_types.specs.Fits.{FitTables}
 use Rattle.pac_types.specs.Typing.{CatalogueState}
-use Rattle.pac_log.specs.Logs.{HasGate, all_txns}
+use Rattle.pac_outside.specs.declared.devices.LogName.TheVariants.{Log}
+use Rattle.pac_log.specs.declared.header.HeaderForm.TheVariants.{First}
+use Rattle.pac_log.specs.Logs.{HasGate, all_txns, header_with}
 use Rattle.pac_log.proofs.OneGate.{next_is_gate}
 use Rattle.pac_check.specs.declared.info.SlotInfo.{SlotInfo}
 use Rattle.pac_check.specs.declared.info.SlotName.{SlotName}
@@ -21,8 +23,9 @@ use Rattle.pac_check.specs.declared.info.SlotName.TheVariants.{A, B}
 use Rattle.pac_check.specs.declared.slots.Slots.{Slots}
 use Rattle.pac_check.specs.declared.state.SlotState.{SlotState}
 use Rattle.pac_check.specs.declared.state.SlotState.TheVariants.{Empty, Closed, Open}
-use Rattle.pac_check.specs.Checkpoints.{IsCheckpoint, checkpoint_bytes, head_with}
-use Rattle.pac_check.specs.Replacing.{HasByte, IsOldShutOrNew}
+use Rattle.pac_check.specs.Checkpoints.{IsCheckpoint, checkpoint_bytes, first_head}
+use Rattle.pac_check.specs.Filling.{IsOldShutOrNew}
+use Rattle.pac_check.specs.Replacing.{HasByte}
 use Rattle.pac_check.specs.Saved.{checkpoint_of}
 use Rattle.pac_check.specs.SlotStates.{HoldsRows, IsSlot, by_slot, info_of, newest_of, spare_beside, spare_of, with_more}
 use Rattle.pac_check.proofs.SlotLemmas.{begins, read_held}
@@ -79,9 +82,9 @@ at-least (Some x) (Some y) n (info, is, which) = go (nat_lt x.txns y.txns) refl 
 pub saves-all : (e : EngineParts) → e.log.gate.txns < saved_of (saved_parts e)
 saves-all e = go (spare_of e.slots) refl
   where
-    go : (spare : SlotName) → spare_of e.slots ≡ spare → e.log.gate.txns < reach_of (newest_of (by_slot (spare_of e.slots) (record (e.slots) { a = Open (head_with e.log.gate.txns e.log.gate.place) }) (record (e.slots) { b = Open (head_with e.log.gate.txns e.log.gate.place) })))
-    go A is = rw is (at-least (info_of A (Open (head_with e.log.gate.txns e.log.gate.place))) (info_of B e.slots.b) e.log.gate.txns (record { slot = A; txns = e.log.gate.txns; place = e.log.gate.place }, refl, inl refl))
-    go B is = rw is (at-least (info_of A e.slots.a) (info_of B (Open (head_with e.log.gate.txns e.log.gate.place))) e.log.gate.txns (record { slot = B; txns = e.log.gate.txns; place = e.log.gate.place }, refl, inr refl))
+    go : (spare : SlotName) → spare_of e.slots ≡ spare → e.log.gate.txns < reach_of (newest_of (by_slot (spare_of e.slots) (record (e.slots) { a = Open (first_head e.log.gate.txns e.log.gate.place) }) (record (e.slots) { b = Open (first_head e.log.gate.txns e.log.gate.place) })))
+    go A is = rw is (at-least (info_of A (Open (first_head e.log.gate.txns e.log.gate.place))) (info_of B e.slots.b) e.log.gate.txns (record { slot = A; txns = e.log.gate.txns; place = e.log.gate.place; segment = Log }, refl, inl refl))
+    go B is = rw is (at-least (info_of A e.slots.a) (info_of B (Open (first_head e.log.gate.txns e.log.gate.place))) e.log.gate.txns (record { slot = B; txns = e.log.gate.txns; place = e.log.gate.place; segment = Log }, refl, inr refl))
 
 -- ---- what a crash leaves
 
@@ -101,19 +104,20 @@ has-byte text catalogue batches Empty (gate ∷ bytes) is known = absurd (never-
 
 module _ (text : List ℕ) (history : List Txn) (e : EngineParts) (l a b : DiskHistory) (is : EngineStands text history e l a b) (none : e.session.txns ≡ []) (fit : FitTables e.session.catalogue.tables e.session.tables) where
   abbrev bytes : List ℕ
-  bytes = checkpoint_bytes (checkpoint_of (length e.session.catalogue.tables) (head_with e.log.gate.txns e.log.gate.place) e.session.tables)
+  bytes = checkpoint_bytes (checkpoint_of (length e.session.catalogue.tables) (first_head e.log.gate.txns e.log.gate.place) e.session.tables)
 
   whole : history ≡ all_txns is.batches
   whole = is.split ∙ ap (λ (t : List Txn). all_txns is.batches ++ t) none ∙ append-nil (all_txns is.batches)
 
   -- the new checkpoint is one of the log's prefix
-  new-prefix : (image : List ℕ) → HoldsRows e.session.catalogue.tables (head_with e.log.gate.txns e.log.gate.place) e.session.tables image → IsShutOrPrefix text e.session.catalogue is.batches image
+  new-prefix : (image : List ℕ) → HoldsRows e.session.catalogue.tables (first_head e.log.gate.txns e.log.gate.place) e.session.tables image → IsShutOrPrefix text e.session.catalogue is.batches image
   new-prefix image rows = inr (record {
-    head = head_with e.log.gate.txns e.log.gate.place;
+    head = first_head e.log.gate.txns e.log.gate.place;
     held = e.session.tables;
     fit = fit;
     rows = rows;
-    gate = subst (λ (bs : List (List Txn)). HasGate text bs e.log.gate.place e.log.gate.txns) (append-nil is.batches) (next_is_gate text is.batches [] e.log.gate is.after);
+    names = refl;
+    gate = subst (λ (bs : List (List Txn)). HasGate (header_with First text) bs e.log.gate.place e.log.gate.txns) (append-nil is.batches) (next_is_gate (header_with First text) is.batches [] e.log.gate is.after);
     ends = subst (λ (t : List Txn). EndsWith e.session.catalogue t e.session.tables) (whole ∙ sym (take_all e.log.gate.txns (all_txns is.batches) (omega (arith, durable-is text history e l a b is)))) is.ends;
   })
 
@@ -124,7 +128,7 @@ module _ (text : List ℕ) (history : List Txn) (e : EngineParts) (l a b : DiskH
   stays : (x y : List ℕ) → IsShutOrPrefix text e.session.catalogue is.batches x → IsShutOrPrefix text e.session.catalogue is.batches y → HoldsSaved e.session.catalogue (saved_of e) (three l.now.seen x y) → Left (three l.now.seen x y)
   stays x y is_x is_y saves = stands-at text history e l a b is is.batches e.session.txns (three l.now.seen x y) is.log.has is.split (omega (arith, durable-is text history e l a b is)) is_x is_y saves
 
-  module _ (form : IsCheckpoint e.session.catalogue.tables (checkpoint_of (length e.session.catalogue.tables) (head_with e.log.gate.txns e.log.gate.place) e.session.tables)) where
+  module _ (form : IsCheckpoint e.session.catalogue.tables (checkpoint_of (length e.session.catalogue.tables) (first_head e.log.gate.txns e.log.gate.place) e.session.tables)) where
     replaced : (old image : List ℕ) → IsShutOrPrefix text e.session.catalogue is.batches old → IsOldShutOrNew old bytes image → IsShutOrPrefix text e.session.catalogue is.batches image
     replaced old image was which = ⊎_elim (λ same. subst (λ (i : List ℕ). IsShutOrPrefix text e.session.catalogue is.batches i) (sym same) was) (λ other. ⊎_elim (λ shut. inl shut) (λ opens. new-prefix image (record { form = form; opens = opens })) other) which
 
@@ -153,23 +157,23 @@ module _ (text : List ℕ) (history : List Txn) (e : EngineParts) (l a b : DiskH
             go (Some info) h = inr (inl (open-saved text e.session.catalogue (tables-few text history e l a b is) is.batches a.now.seen e.slots.a is.slot_a.has is.known_a A info (info-of-b e.slots spare info h)))
 
   -- afterwards
-  pub save-a-stands : (n : DiskHistory) → OneImage (HoldsRows e.session.catalogue.tables (head_with e.log.gate.txns e.log.gate.place) e.session.tables) n.now
-      → EngineStands text history (record e { slots = record (e.slots) { a = Open (head_with e.log.gate.txns e.log.gate.place) } }) l n b
+  pub save-a-stands : (n : DiskHistory) → OneImage (HoldsRows e.session.catalogue.tables (first_head e.log.gate.txns e.log.gate.place) e.session.tables) n.now
+      → EngineStands text history (record e { slots = record (e.slots) { a = Open (first_head e.log.gate.txns e.log.gate.place) } }) l n b
   save-a-stands n new = record {
     batches = is.batches;
     log = is.log;
     after = is.after;
     slot_a = record { one = new.one; has = new-prefix n.now.seen new.has };
     slot_b = is.slot_b;
-    known_a = read_held e.session.catalogue.tables (tables-few text history e l a b is) n.now.seen (checkpoint_of (length e.session.catalogue.tables) (head_with e.log.gate.txns e.log.gate.place) e.session.tables) new.has;
+    known_a = read_held e.session.catalogue.tables (tables-few text history e l a b is) n.now.seen (checkpoint_of (length e.session.catalogue.tables) (first_head e.log.gate.txns e.log.gate.place) e.session.tables) new.has;
     known_b = is.known_b;
     fit = is.fit;
     ends = is.ends;
     split = is.split;
   }
 
-  pub save-b-stands : (n : DiskHistory) → OneImage (HoldsRows e.session.catalogue.tables (head_with e.log.gate.txns e.log.gate.place) e.session.tables) n.now
-      → EngineStands text history (record e { slots = record (e.slots) { b = Open (head_with e.log.gate.txns e.log.gate.place) } }) l a n
+  pub save-b-stands : (n : DiskHistory) → OneImage (HoldsRows e.session.catalogue.tables (first_head e.log.gate.txns e.log.gate.place) e.session.tables) n.now
+      → EngineStands text history (record e { slots = record (e.slots) { b = Open (first_head e.log.gate.txns e.log.gate.place) } }) l a n
   save-b-stands n new = record {
     batches = is.batches;
     log = is.log;
@@ -177,7 +181,7 @@ module _ (text : List ℕ) (history : List Txn) (e : EngineParts) (l a b : DiskH
     slot_a = is.slot_a;
     slot_b = record { one = new.one; has = new-prefix n.now.seen new.has };
     known_a = is.known_a;
-    known_b = read_held e.session.catalogue.tables (tables-few text history e l a b is) n.now.seen (checkpoint_of (length e.session.catalogue.tables) (head_with e.log.gate.txns e.log.gate.place) e.session.tables) new.has;
+    known_b = read_held e.session.catalogue.tables (tables-few text history e l a b is) n.now.seen (checkpoint_of (length e.session.catalogue.tables) (first_head e.log.gate.txns e.log.gate.place) e.session.tables) new.has;
     fit = is.fit;
     ends = is.ends;
     split = is.split;

@@ -17,7 +17,8 @@ use Rattle.pac_types.specs.Fits.{TxnFits}
 use Rattle.pac_types.specs.Typing.{CatalogueState}
 use Rattle.pac_serial.specs.declared.execute.ExecError.{ExecError}
 use Rattle.pac_request.specs.declared.request.Request.{Request}
-use Rattle.pac_log.specs.Logs.{HoldsLog, all_txns}
+use Rattle.pac_log.specs.declared.header.HeaderForm.TheVariants.{First}
+use Rattle.pac_log.specs.Logs.{HoldsLog, all_txns, header_with}
 use Rattle.pac_log.specs.Places.{IsAfter}
 use Rattle.pac_log.proofs.LogLemmas.{all_txns-append}
 use Rattle.pac_log.proofs.OneGate.{few, stays}
@@ -29,7 +30,7 @@ use Rattle.pac_check.specs.declared.slots.Slots.{Slots}
 use Rattle.pac_check.specs.declared.damage.SlotFault.{SlotFault}
 use Rattle.pac_check.specs.declared.state.SlotState.{SlotState}
 use Rattle.pac_check.specs.declared.state.SlotState.TheVariants.{Empty, Closed, Open}
-use Rattle.pac_check.specs.SlotStates.{info_of, newest_of, IsSlot}
+use Rattle.pac_check.specs.SlotStates.{info_of, info_with, newest_of, IsSlot}
 use Rattle.pac_check.specs.Saved.{checkpoint_of}
 use Rattle.pac_store.specs.Images.{Images}
 use Rattle.pac_store.specs.Stands.{EndsWith, HasSaved, HoldsSaved, IsHistory, IsShutOrPrefix}
@@ -58,13 +59,14 @@ prefix-more text catalogue batches (txn ∷ txns) image (inl shut) = inl shut
 prefix-more text catalogue batches (txn ∷ txns) image (inr prefix) =
     let more : List (List Txn) = (txn ∷ txns) ∷ [] in
     let same : take prefix.head.txns (all_txns (batches ++ more)) ≡ take prefix.head.txns (all_txns batches)
-    = ap (λ (l : List Txn). take prefix.head.txns l) (all_txns-append batches more) ∙ take-append-le prefix.head.txns (all_txns batches) (all_txns more) (few text batches prefix.head.place prefix.head.txns prefix.gate) in
+    = ap (λ (l : List Txn). take prefix.head.txns l) (all_txns-append batches more) ∙ take-append-le prefix.head.txns (all_txns batches) (all_txns more) (omega (arith, few (header_with First text) batches prefix.head.place prefix.head.txns prefix.gate)) in
     inr (record {
       head = prefix.head;
       held = prefix.held;
       fit = prefix.fit;
       rows = prefix.rows;
-      gate = stays text batches more prefix.head.place prefix.head.txns prefix.gate;
+      names = prefix.names;
+      gate = stays (header_with First text) batches more prefix.head.place prefix.head.txns prefix.gate;
       ends = subst (λ (l : List Txn). EndsWith catalogue l prefix.held) (sym same) prefix.ends;
     })
 
@@ -76,7 +78,7 @@ same-state a b e = cc
 pub some-open : (slot : SlotName) (state : SlotState) (info : SlotInfo) → info_of slot state ≡ Some info → (head : Head) × (state ≡ Open head) × (info.txns ≡ head.txns) × (info.slot ≡ slot)
 some-open slot Empty info e = absurd cc
 some-open slot Closed info e = absurd cc
-some-open slot (Open head) info e = let same : info ≡ record { slot = slot; txns = head.txns; place = head.place } = cc in (head, refl, ap (λ (i : SlotInfo). i.txns) same, ap (λ (i : SlotInfo). i.slot) same)
+some-open slot (Open head) info e = let same : info ≡ info_with slot head = cc in (head, refl, ap (λ (i : SlotInfo). i.txns) same, ap (λ (i : SlotInfo). i.slot) same)
 
 module _ (text : List ℕ) (catalogue : CatalogueState) (few_tables : length catalogue.tables < 65536) (batches : List (List Txn)) where
   -- an open slot has a checkpoint with the number that is known of it
@@ -118,10 +120,10 @@ module _ (text : List ℕ) (history : List Txn) (e : EngineParts) (l a b : DiskH
   executes-it = record { fit = is.fit; held = e.session.tables; ends = is.ends }
 
   pub durable-is : durable_of e ≡ length (all_txns is.batches)
-  durable-is = is.after.txns
+  durable-is = omega (arith, is.after.txns)
 
   -- the log has a prefix of the history, and each slot is shut or has a checkpoint of that
-  pub stands-at : (batches : List (List Txn)) (later : List Txn) (images : Images) → HoldsLog text cat batches images.log → history ≡ all_txns batches ++ later → durable_of e ≤ length (all_txns batches)
+  pub stands-at : (batches : List (List Txn)) (later : List Txn) (images : Images) → HoldsLog (header_with First text) cat batches images.log → history ≡ all_txns batches ++ later → durable_of e ≤ length (all_txns batches)
       → IsShutOrPrefix text cat batches images.slot_a → IsShutOrPrefix text cat batches images.slot_b → HoldsSaved cat (saved_of e) images → Kept images
   stands-at batches later images log prefix enough is_a is_b saves = record {
     stands = record { executes = executes-it; batches = batches; log = log; later = later; prefix = prefix; enough = enough; slot_a = is_a; slot_b = is_b };
@@ -146,7 +148,7 @@ leave-same text catalogue history before now devices durable saved leaves = λ i
 
 -- ---- a commit
 
-module _ (text : List ℕ) (history : List Txn) (e : EngineParts) (l a b : DiskHistory) (is : EngineStands text history e l a b) (n : DiskHistory) (may : MayAdd text e.session.catalogue is.batches e.session.txns l n) where
+module _ (text : List ℕ) (history : List Txn) (e : EngineParts) (l a b : DiskHistory) (is : EngineStands text history e l a b) (n : DiskHistory) (may : MayAdd (header_with First text) e.session.catalogue is.batches e.session.txns l n) where
   abbrev more : List (List Txn)
   more = with_batch is.batches e.session.txns
 
@@ -159,14 +161,14 @@ module _ (text : List ℕ) (history : List Txn) (e : EngineParts) (l a b : DiskH
   abbrev Left : Images → Type 0
   Left images = StandsWith text e.session.catalogue history (durable_of e) (saved_of e) images
 
-  old-or-new : (i : List ℕ) → HoldsLog text e.session.catalogue is.batches i ⊎ HoldsLog text e.session.catalogue more i → Left (three i a.now.seen b.now.seen)
+  old-or-new : (i : List ℕ) → HoldsLog (header_with First text) e.session.catalogue is.batches i ⊎ HoldsLog (header_with First text) e.session.catalogue more i → Left (three i a.now.seen b.now.seen)
   old-or-new i which = ⊎_elim
       (λ old. stands-at text history e l a b is is.batches e.session.txns (three i a.now.seen b.now.seen) old is.split (omega (arith, durable-is text history e l a b is)) is.slot_a.has is.slot_b.has (saved-here text history e l a b is i))
       (λ new. stands-at text history e l a b is more [] (three i a.now.seen b.now.seen) new more-split more-enough
       (prefix-more text e.session.catalogue is.batches e.session.txns a.now.seen is.slot_a.has) (prefix-more text e.session.catalogue is.batches e.session.txns b.now.seen is.slot_b.has) (saved-here text history e l a b is i)) which
 
   pub commit-run : RunLeaves (MayLeave text e.session.catalogue history e) (three l a b) (three n a b)
-  commit-run = device-runs Left the_log (three l a b) n (λ i. HoldsLog text e.session.catalogue is.batches i ⊎ HoldsLog text e.session.catalogue more i)
+  commit-run = device-runs Left the_log (three l a b) n (λ i. HoldsLog (header_with First text) e.session.catalogue is.batches i ⊎ HoldsLog (header_with First text) e.session.catalogue more i)
       (λ state leaves images are. subst (λ (y : List ℕ). Left (three images.log images.slot_a y)) (sym (image-of _ b.now is.slot_b images.slot_b are.slot_b))
       (subst (λ (x : List ℕ). Left (three images.log x b.now.seen)) (sym (image-of _ a.now is.slot_a images.slot_a are.slot_a)) (old-or-new images.log (leaves images.log are.log))))
       (may is.log)
@@ -177,7 +179,7 @@ module _ (text : List ℕ) (history : List Txn) (e : EngineParts) (l a b : DiskH
     end = leave-same text e.session.catalogue history e now (three n a b) durable saved (run_end (MayLeave text e.session.catalogue history e) (three l a b) (three n a b) commit-run);
   }
 
-  module _ (added : HasAdded text e.session.catalogue is.batches e.session.txns l n) (after : IsAfter text more (gate_past e.session.txns e.log.gate)) where
+  module _ (added : HasAdded (header_with First text) e.session.catalogue is.batches e.session.txns l n) (after : IsAfter (header_with First text) more (gate_past e.session.txns e.log.gate)) where
     pub commit-stands : EngineStands text history (committed_parts e) n a b
     commit-stands = record {
       batches = more;

@@ -23,9 +23,9 @@ use Rattle.pac_engine.proofs.DeviceLemmas.{image-of}
 -- the image of a log that ends at a gate
 settled-at : (gate : NextGate) (state : DiskState) → LogEndsAt gate state → (image : List ℕ) → IsImage state image → LogEndsAt gate (settled image)
 settled-at gate state at image is = record {
-  text = at.text;
+  header = at.header;
   batches = at.batches;
-  holds = record { one = refl; has = subst (HoldsLog at.text gate.catalogue at.batches) (sym (image-of (HoldsLog at.text gate.catalogue at.batches) state at.holds image is)) at.holds.has };
+  holds = record { one = refl; has = subst (HoldsLog at.header gate.catalogue at.batches) (sym (image-of (HoldsLog at.header gate.catalogue at.batches) state at.holds image is)) at.holds.has };
   after = at.after;
 }
 

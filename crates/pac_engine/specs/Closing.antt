@@ -10,7 +10,7 @@ use Rattle.pac_request.specs.declared.request.Request.TheVariants as request
 use Rattle.pac_request.specs.declared.request.Reply.{Reply}
 use Rattle.pac_request.specs.declared.request.Reply.TheVariants as reply
 use Rattle.pac_check.specs.declared.limits.TheConstants.{MAX_SLOT_LEN}
-use Rattle.pac_check.specs.Checkpoints.{checkpoint_bytes, head_with}
+use Rattle.pac_check.specs.Checkpoints.{checkpoint_bytes, first_head}
 use Rattle.pac_check.specs.Saved.{checkpoint_of}
 use Rattle.pac_log.specs.declared.position.NextGate.{NextGate}
 use Rattle.pac_log.specs.Torn.{LogEndsAtEither}
@@ -114,7 +114,7 @@ GivesFitting groups given = IsUpToSome groups given ⊎ IsUnsaved groups given
 
 -- how many bytes a slot has with the checkpoint of these tables, the log's gate being at this offset
 abbrev pub slot_len : Rules → SessionState → ℕ → ℕ
-slot_len rules state place = 1 + length (checkpoint_bytes (checkpoint_of (length rules.catalogue.tables) (head_with state.number place) state.tables))
+slot_len rules state place = 1 + length (checkpoint_bytes (checkpoint_of (length rules.catalogue.tables) (first_head state.number place) state.tables))
 
 -- and with the checkpoint after these groups a slot would have this many bytes, which is too many
 pub record IsTooLarge (rules : Rules) (place : ℕ) (start : SessionState) (closed : List (List Request)) (bytes : ℕ) (given : List Reply) : Type 0 where

@@ -4,6 +4,7 @@ use Rattle.pac_ops.specs.declared.transaction.Txn.{Txn}
 use Rattle.pac_outside.specs.Disk.{DiskHistory, LeavesOnly}
 use Rattle.pac_outside.specs.GateByte.{OneImage}
 use Rattle.pac_types.specs.Typing.{CatalogueState}
+use Rattle.pac_log.specs.declared.header.Header.{Header}
 use Rattle.pac_log.specs.declared.limits.TheConstants.{MAX_LOG_LEN}
 use Rattle.pac_log.specs.declared.position.NextGate.{NextGate}
 use Rattle.pac_log.specs.Bodies.{body_bytes}
@@ -22,13 +23,13 @@ gate_past [] gate = gate
 gate_past (txn ∷ txns) gate = gate_after (length (txn ∷ txns)) (1 + length (body_bytes (txn ∷ txns))) gate
 
 -- at each moment a crash leaves these batches, or these and the new one
-abbrev pub MayAdd : List ℕ → CatalogueState → List (List Txn) → List Txn → DiskHistory → DiskHistory → Type 0
-MayAdd text catalogue batches txns old new = OneImage (HoldsLog text catalogue batches) old.now
-    → LeavesOnly (λ image. HoldsLog text catalogue batches image ⊎ HoldsLog text catalogue (with_batch batches txns) image) old new
+abbrev pub MayAdd : Header → CatalogueState → List (List Txn) → List Txn → DiskHistory → DiskHistory → Type 0
+MayAdd header catalogue batches txns old new = OneImage (HoldsLog header catalogue batches) old.now
+    → LeavesOnly (λ image. HoldsLog header catalogue batches image ⊎ HoldsLog header catalogue (with_batch batches txns) image) old new
 
 -- afterwards the one image has the new batch too
-abbrev pub HasAdded : List ℕ → CatalogueState → List (List Txn) → List Txn → DiskHistory → DiskHistory → Type 0
-HasAdded text catalogue batches txns old new = OneImage (HoldsLog text catalogue batches) old.now → OneImage (HoldsLog text catalogue (with_batch batches txns)) new.now
+abbrev pub HasAdded : Header → CatalogueState → List (List Txn) → List Txn → DiskHistory → DiskHistory → Type 0
+HasAdded header catalogue batches txns old new = OneImage (HoldsLog header catalogue batches) old.now → OneImage (HoldsLog header catalogue (with_batch batches txns)) new.now
 
 -- after this offset the log has room for the transactions, where there are any
 abbrev pub HasRoomAt : ℕ → List Txn → Type 0

@@ -8,7 +8,7 @@ use Rattle.pac_request.specs.declared.request.Reply.{Reply}
 use Rattle.pac_request.specs.declared.request.Reply.TheVariants as reply
 use Rattle.pac_log.specs.declared.log.Stage.TheVariants.{Waiting}
 use Rattle.pac_check.specs.declared.limits.TheConstants.{MAX_SAVED_ROWS}
-use Rattle.pac_check.specs.Checkpoints.{head_with}
+use Rattle.pac_check.specs.Checkpoints.{first_head}
 use Rattle.pac_check.specs.SlotStates.{saved_slots}
 use Rattle.pac_session.specs.Session.{txn_of}
 use Rattle.pac_session.specs.Groups.{is_closing, lacks_room}
@@ -59,7 +59,7 @@ committed_parts engine = record engine { session = with_closed engine.session; l
 
 -- a checkpoint saved
 abbrev pub saved_parts : EngineParts → EngineParts
-saved_parts engine = record engine { slots = saved_slots (head_with engine.log.gate.txns engine.log.gate.place) engine.slots }
+saved_parts engine = record engine { slots = saved_slots (first_head engine.log.gate.txns engine.log.gate.place) engine.slots }
 
 -- what is durable and saved is as it was
 pub record IsUnmoved (before now : EngineParts) : Type 0 where

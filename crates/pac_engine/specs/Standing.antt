@@ -8,7 +8,9 @@ use Rattle.pac_outside.specs.Disk.{DiskHistory, IfKnown, settled}
 use Rattle.pac_outside.specs.GateByte.{OneImage}
 use Rattle.pac_types.specs.Fits.{TxnFits}
 use Rattle.pac_types.specs.Typing.{CatalogueState}
-use Rattle.pac_log.specs.Logs.{HoldsLog, all_txns}
+use Rattle.pac_log.specs.declared.header.Header.{Header}
+use Rattle.pac_log.specs.declared.header.HeaderForm.TheVariants.{First}
+use Rattle.pac_log.specs.Logs.{HoldsLog, all_txns, header_with}
 use Rattle.pac_log.specs.Places.{IsAfter, LogEndsAt}
 use Rattle.pac_check.specs.declared.info.SlotInfo.{SlotInfo}
 use Rattle.pac_check.specs.SlotStates.{IsSlot, newest_of}
@@ -51,8 +53,8 @@ pub record StandsWith (text : List ℕ) (catalogue : CatalogueState) (history : 
 -- slot it leaves one image too, which is shut or has a checkpoint of the log's prefix.
 pub record EngineStands (text : List ℕ) (history : List Txn) (engine : EngineParts) (l a b : DiskHistory) : Type 0 where
   pub batches : List (List Txn)
-  pub log : OneImage (HoldsLog text engine.session.catalogue batches) l.now
-  pub after : IsAfter text batches engine.log.gate
+  pub log : OneImage (HoldsLog (header_with First text) engine.session.catalogue batches) l.now
+  pub after : IsAfter (header_with First text) batches engine.log.gate
   pub slot_a : OneImage (IsShutOrPrefix text engine.session.catalogue batches) a.now
   pub slot_b : OneImage (IsShutOrPrefix text engine.session.catalogue batches) b.now
   pub known_a : IsSlot engine.session.catalogue.tables engine.slots.a a.now.seen
@@ -99,10 +101,10 @@ pub record IsOpenedOn (history : List Txn) (engine : EngineParts) (l a b : DiskH
   pub log_settled : l.now ≡ settled l.now.seen
   pub a_settled : a.now ≡ settled a.now.seen
   pub b_settled : b.now ≡ settled b.now.seen
-  pub text : List ℕ
+  pub header : Header
   pub batches : List (List Txn)
-  pub log : HoldsLog text engine.session.catalogue batches l.now.seen
-  pub after : IsAfter text batches engine.log.gate
+  pub log : HoldsLog header engine.session.catalogue batches l.now.seen
+  pub after : IsAfter header batches engine.log.gate
   pub known_a : IsSlot engine.session.catalogue.tables engine.slots.a a.now.seen
   pub known_b : IsSlot engine.session.catalogue.tables engine.slots.b b.now.seen
   pub none : engine.session.txns ≡ []

@@ -6,6 +6,7 @@ ghost use Rattle.pac_ops.specs.declared.limits.TheConstants.{MAX_TXNS};
 ghost use Rattle.pac_ops.specs.declared.transaction.Txn.{Txn as ATxn};
 ghost use Rattle.pac_types.specs.Fits.{TxnFits};
 ghost use Rattle.pac_entry.specs.declared.limits.TheConstants.{MAX_BODY_LEN};
+ghost use Rattle.pac_log.specs.declared.header.Header.{Header as AHeader};
 ghost use Rattle.pac_log.specs.declared.limits.TheConstants.{MAX_LOG_LEN};
 ghost use Rattle.pac_log.specs.declared.log.Stage.{Stage};
 ghost use Rattle.pac_log.specs.Bodies.{body_bytes};
@@ -64,13 +65,13 @@ pub fn commit<D: Disk>(log: &mut Log, disk: &mut D, txns: Vec<Txn>) -> Result<Ve
     requires short { length (body_bytes txns.items) ≤ MAX_BODY_LEN }
 
     // At each moment a crash leaves the batches before, or these and the new one.
-    ensures moments { (text : List ℕ) (batches : List (List ATxn)) → IsAfter text batches log.old.gate
-        → BothKnown (MayAdd text log.old.gate.catalogue batches txns.items) (D.known disk.old) (D.known disk.new) }
+    ensures moments { (header : AHeader) (batches : List (List ATxn)) → IsAfter header batches log.old.gate
+        → BothKnown (MayAdd header log.old.gate.catalogue batches txns.items) (D.known disk.old) (D.known disk.new) }
 
     // Afterwards it leaves the new one too, and the log stands after it.
-    ensures added { OnOk result ((text : List ℕ) (batches : List (List ATxn)) → IsAfter text batches log.old.gate
-        → BothKnown (HasAdded text log.old.gate.catalogue batches txns.items) (D.known disk.old) (D.known disk.new)) }
-    ensures after { OnOk result ((text : List ℕ) (batches : List (List ATxn)) → IsAfter text batches log.old.gate → IsAfter text (with_batch batches txns.items) log.new.gate) }
+    ensures added { OnOk result ((header : AHeader) (batches : List (List ATxn)) → IsAfter header batches log.old.gate
+        → BothKnown (HasAdded header log.old.gate.catalogue batches txns.items) (D.known disk.old) (D.known disk.new)) }
+    ensures after { OnOk result ((header : AHeader) (batches : List (List ATxn)) → IsAfter header batches log.old.gate → IsAfter header (with_batch batches txns.items) log.new.gate) }
     ensures ends { OnOk result (IfKnown (λ new. LogEndsAt log.new.gate new.now) (D.known disk.new)) }
     ensures gate { OnOk result (log.new.gate ≡ gate_past txns.items log.old.gate) }
     ensures kept { OnErr result (log.new.gate ≡ log.old.gate) }

@@ -12,3 +12,4 @@ pub mod TypeLemmas
 pub mod PrefixLemmas
 pub mod UnrollTypes
 pub mod WellFormedProgram
+pub mod OneAcceptance

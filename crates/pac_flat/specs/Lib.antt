@@ -1,3 +1,4 @@
 pub mod FlatForm
 pub mod Names
 pub mod Agreement
+pub mod Unaccepted

@@ -4,6 +4,8 @@
 //! - [`flatten`]: the [`Program`](pac_ops::Program) of each procedure of a catalogue, or the first procedure at which
 //!   operations are [too many](TooManyOps): more than 256 of its own, or more than 4,096 up to its end.
 //! - [`test_operations`]: whether they are few enough, without memory.
+//! - [`accepted`]: the catalogue of a text, where a database takes it, or why it doesn't, an [`AcceptFault`].
+//!   [`excess_fault`] is too many operations as such a fault.
 //!
 //! ```
 //! use pac_flat::flatten;
@@ -20,10 +22,12 @@
 //! conditional is an operation that defines its hidden variable.
 #![tactic(auto)]
 
+mod acceptance;
 mod block;
 mod catalogue;
 mod point;
 mod program;
 mod variables;
 
+pub use acceptance::{AcceptError, AcceptFault, accepted, excess_fault};
 pub use catalogue::{FlatError, TooManyOps, flatten, test_operations};

@@ -13,6 +13,7 @@ use Rattle.pac_bytes.proofs.Codec.{IsCodec}
 use Rattle.pac_entry.proofs.EntryLemmas.{entry_codec}
 use Rattle.pac_entry.proofs.ReadingLemmas.{few_tables, few_procs}
 use Rattle.pac_outside.specs.GateByte.{IsShut}
+use Rattle.pac_log.specs.declared.header.Header.{Header}
 use Rattle.pac_log.specs.declared.damage.LinkFault.{LinkFault}
 use Rattle.pac_log.specs.declared.link.Link.{Link}
 use Rattle.pac_log.specs.Bodies.{body_bytes, IsBody, link_bytes, IsLogLink}
@@ -84,24 +85,24 @@ pub headed : (after : List (List Txn)) (gate : ℕ) (rest : List ℕ) → (first
 headed [] gate rest = (gate, rest, refl)
 headed (txns ∷ after) gate rest = (1, (body_bytes txns ++ open_bodies after) ++ (gate ∷ rest), refl)
 
-module _ (text : List ℕ) (catalogue : CatalogueState) (image : List ℕ) where
+module _ (header : Header) (catalogue : CatalogueState) (image : List ℕ) where
   -- the next batch is held at the gate after those before it
-  pub next_held : (before after : List (List Txn)) (txns : List Txn) (gate : ℕ) (rest : List ℕ) → AreBatches text catalogue (before ++ (txns ∷ after)) → image ≡ log_prefix text (before ++ (txns ∷ after)) ++ (gate ∷ rest)
-      → at_gate catalogue image (length (log_prefix text before)) ≡ Ok (Some txns)
+  pub next_held : (before after : List (List Txn)) (txns : List Txn) (gate : ℕ) (rest : List ℕ) → AreBatches header catalogue (before ++ (txns ∷ after)) → image ≡ log_prefix header (before ++ (txns ∷ after)) ++ (gate ∷ rest)
+      → at_gate catalogue image (length (log_prefix header before)) ≡ Ok (Some txns)
   next_held before after txns gate rest are split =
       let more = headed after gate rest in
-      let parts : image ≡ log_prefix text before ++ (1 ∷ (body_bytes txns ++ (more.0 ∷ more.1)))
-      = split ∙ ap (λ (l : List ℕ). l ++ (gate ∷ rest)) (log_prefix-append text before (txns ∷ after)) ∙ append_assoc (log_prefix text before) (open_bodies (txns ∷ after)) (gate ∷ rest)
-      ∙ ap (λ (l : List ℕ). log_prefix text before ++ (1 ∷ l)) (append_assoc (body_bytes txns) (open_bodies after) (gate ∷ rest) ∙ ap (λ (l : List ℕ). body_bytes txns ++ l) more.2) in
-      at_prefix catalogue image (log_prefix text before) (1 ∷ (body_bytes txns ++ (more.0 ∷ more.1))) parts
-      ∙ ap (λ r. reported_as (further (length (log_prefix text before))) r) (open_holds text catalogue txns more.0 more.1 are.accepted (body_in (IsBody catalogue) before after txns are.each))
+      let parts : image ≡ log_prefix header before ++ (1 ∷ (body_bytes txns ++ (more.0 ∷ more.1)))
+      = split ∙ ap (λ (l : List ℕ). l ++ (gate ∷ rest)) (log_prefix-append header before (txns ∷ after)) ∙ append_assoc (log_prefix header before) (open_bodies (txns ∷ after)) (gate ∷ rest)
+      ∙ ap (λ (l : List ℕ). log_prefix header before ++ (1 ∷ l)) (append_assoc (body_bytes txns) (open_bodies after) (gate ∷ rest) ∙ ap (λ (l : List ℕ). body_bytes txns ++ l) more.2) in
+      at_prefix catalogue image (log_prefix header before) (1 ∷ (body_bytes txns ++ (more.0 ∷ more.1))) parts
+      ∙ ap (λ r. reported_as (further (length (log_prefix header before))) r) (open_holds header.text catalogue txns more.0 more.1 are.accepted (body_in (IsBody catalogue) before after txns are.each))
 
   -- at the gate after all, nothing
-  pub last_held : (batches : List (List Txn)) → IsShut (log_prefix text batches) image → at_gate catalogue image (length (log_prefix text batches)) ≡ Ok None
+  pub last_held : (batches : List (List Txn)) → IsShut (log_prefix header batches) image → at_gate catalogue image (length (log_prefix header batches)) ≡ Ok None
   last_held batches is =
-      at_prefix catalogue image (log_prefix text batches) (is.gate ∷ is.rest) is.split ∙ ap (λ r. reported_as (further (length (log_prefix text batches))) r) (shut_holds catalogue is.gate is.rest is.shut)
+      at_prefix catalogue image (log_prefix header batches) (is.gate ∷ is.rest) is.split ∙ ap (λ r. reported_as (further (length (log_prefix header batches))) r) (shut_holds catalogue is.gate is.rest is.shut)
 
   -- so a log's batches are read again
-  pub held : (before after : List (List Txn)) → HoldsLog text catalogue (before ++ after) image → at_gate catalogue image (length (log_prefix text before)) ≡ Ok (first_batch after)
-  held before [] holds = last_held before (subst (λ (l : List (List Txn)). IsShut (log_prefix text l) image) (append-nil before) holds.shut)
+  pub held : (before after : List (List Txn)) → HoldsLog header catalogue (before ++ after) image → at_gate catalogue image (length (log_prefix header before)) ≡ Ok (first_batch after)
+  held before [] holds = last_held before (subst (λ (l : List (List Txn)). IsShut (log_prefix header l) image) (append-nil before) holds.shut)
   held before (txns ∷ after) holds = next_held before after txns holds.shut.gate holds.shut.rest holds.log holds.shut.split

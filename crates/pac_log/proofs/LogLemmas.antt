@@ -12,6 +12,7 @@ use Rattle.pac_types.specs.Typing.{CatalogueState}
 use Rattle.pac_outside.specs.Disk.{DiskHistory, IfKnown, BothKnown, settled}
 use Rattle.pac_outside.specs.GateByte.{IsShut, IsOpen, OneImage, ShutOrOpen, Opens}
 use Rattle.pac_outside.proofs.Histories.{both, last_leaves, weaken}
+use Rattle.pac_log.specs.declared.header.Header.{Header}
 use Rattle.pac_log.specs.declared.position.NextGate.{NextGate}
 use Rattle.pac_log.specs.declared.log.Stage.{Stage}
 use Rattle.pac_log.specs.declared.log.Stage.TheVariants.{Ready}
@@ -25,14 +26,14 @@ open_bodies-append : (a b : List (List Txn)) → open_bodies (a ++ b) ≡ open_b
 open_bodies-append [] b = refl
 open_bodies-append (txns ∷ a) b = ap (λ (l : List ℕ). 1 ∷ l) (ap (λ (l : List ℕ). body_bytes txns ++ l) (open_bodies-append a b) ∙ sym (append_assoc (body_bytes txns) (open_bodies a) (open_bodies b)))
 
-pub log_prefix-append : (text : List ℕ) (a b : List (List Txn)) → log_prefix text (a ++ b) ≡ log_prefix text a ++ open_bodies b
-log_prefix-append text a b = ap (λ (l : List ℕ). header_bytes text ++ l) (open_bodies-append a b) ∙ sym (append_assoc (header_bytes text) (open_bodies a) (open_bodies b))
+pub log_prefix-append : (header : Header) (a b : List (List Txn)) → log_prefix header (a ++ b) ≡ log_prefix header a ++ open_bodies b
+log_prefix-append header a b = ap (λ (l : List ℕ). header_bytes header ++ l) (open_bodies-append a b) ∙ sym (append_assoc (header_bytes header) (open_bodies a) (open_bodies b))
 
 -- with one batch more, its open gate and its body stand after the others
-pub prefix_pushed : (text : List ℕ) (batches : List (List Txn)) (txns : List Txn) (rest : List ℕ) → log_prefix text (batches ++ txns ∷ []) ++ rest ≡ log_prefix text batches ++ (1 ∷ (body_bytes txns ++ rest))
-prefix_pushed text batches txns rest =
-    ap (λ (l : List ℕ). l ++ rest) (log_prefix-append text batches (txns ∷ [])) ∙ append_assoc (log_prefix text batches) (1 ∷ (body_bytes txns ++ [])) rest
-    ∙ ap (λ (l : List ℕ). log_prefix text batches ++ (1 ∷ (l ++ rest))) (append-nil (body_bytes txns))
+pub prefix_pushed : (header : Header) (batches : List (List Txn)) (txns : List Txn) (rest : List ℕ) → log_prefix header (batches ++ txns ∷ []) ++ rest ≡ log_prefix header batches ++ (1 ∷ (body_bytes txns ++ rest))
+prefix_pushed header batches txns rest =
+    ap (λ (l : List ℕ). l ++ rest) (log_prefix-append header batches (txns ∷ [])) ∙ append_assoc (log_prefix header batches) (1 ∷ (body_bytes txns ++ [])) rest
+    ∙ ap (λ (l : List ℕ). log_prefix header batches ++ (1 ∷ (l ++ rest))) (append-nil (body_bytes txns))
 
 pub all_txns-append : (a b : List (List Txn)) → all_txns (a ++ b) ≡ all_txns a ++ all_txns b
 all_txns-append [] b = refl
@@ -41,49 +42,51 @@ all_txns-append (x ∷ a) b = ap (λ (l : List Txn). x ++ l) (all_txns-append a 
 counted_more : (batches : List (List Txn)) (txns : List Txn) → length (all_txns (batches ++ txns ∷ [])) ≡ length (all_txns batches) + length txns
 counted_more batches txns = omega (arith, ap (λ (l : List Txn). length l) (all_txns-append batches (txns ∷ [])), length-append (all_txns batches) (txns ++ []), length-append txns [])
 
-pub with_batch : (text : List ℕ) (catalogue : CatalogueState) (batches : List (List Txn)) (txns : List Txn) → AreBatches text catalogue batches → IsBody catalogue txns → AreBatches text catalogue (batches ++ txns ∷ [])
-with_batch text catalogue batches txns are is = record {
+pub with_batch : (header : Header) (catalogue : CatalogueState) (batches : List (List Txn)) (txns : List Txn) → AreBatches header catalogue batches → IsBody catalogue txns → AreBatches header catalogue (batches ++ txns ∷ [])
+with_batch header catalogue batches txns are is = record {
   accepted = are.accepted;
+  base = are.base;
   each = All-append (IsBody catalogue) batches (txns ∷ []) are.each (All-cons (IsBody catalogue) txns [] is (All-nil (IsBody catalogue)));
 }
 
 -- the gate that comes after one batch more
-pub after_more : (text : List ℕ) (batches : List (List Txn)) (txns : List Txn) (gate : NextGate) → IsAfter text batches gate
-    → IsAfter text (batches ++ txns ∷ []) (gate_after (length txns) (1 + length (body_bytes txns)) gate)
-after_more text batches txns gate is =
-    let lens : length (log_prefix text (batches ++ txns ∷ [])) ≡ length (log_prefix text batches ++ (1 ∷ (body_bytes txns ++ [])))
-    = ap (λ (l : List ℕ). length l) (sym (append-nil (log_prefix text (batches ++ txns ∷ []))) ∙ prefix_pushed text batches txns []) in
+pub after_more : (header : Header) (batches : List (List Txn)) (txns : List Txn) (gate : NextGate) → IsAfter header batches gate
+    → IsAfter header (batches ++ txns ∷ []) (gate_after (length txns) (1 + length (body_bytes txns)) gate)
+after_more header batches txns gate is =
+    let lens : length (log_prefix header (batches ++ txns ∷ [])) ≡ length (log_prefix header batches ++ (1 ∷ (body_bytes txns ++ [])))
+    = ap (λ (l : List ℕ). length l) (sym (append-nil (log_prefix header (batches ++ txns ∷ []))) ∙ prefix_pushed header batches txns []) in
     record {
-      place = omega (arith, is.place, lens, length-append (log_prefix text batches) (1 ∷ (body_bytes txns ++ [])), length-append (body_bytes txns) []);
+      headed = is.headed;
+      place = omega (arith, is.place, lens, length-append (log_prefix header batches) (1 ∷ (body_bytes txns ++ [])), length-append (body_bytes txns) []);
       txns = omega (arith, is.txns, counted_more batches txns);
     }
 
-module _ (text : List ℕ) (catalogue : CatalogueState) (batches : List (List Txn)) (txns : List Txn) (piece : List ℕ) (framed : piece ≡ body_bytes txns ++ (0 ∷ [])) (body : IsBody catalogue txns) where
+module _ (header : Header) (catalogue : CatalogueState) (batches : List (List Txn)) (txns : List Txn) (piece : List ℕ) (framed : piece ≡ body_bytes txns ++ (0 ∷ [])) (body : IsBody catalogue txns) where
   -- an open gate with the body and a shut gate after it is one batch more
-  one_more : (image : List ℕ) → AreBatches text catalogue batches → IsOpen (log_prefix text batches) piece image → HoldsLog text catalogue (batches ++ txns ∷ []) image
+  one_more : (image : List ℕ) → AreBatches header catalogue batches → IsOpen (log_prefix header batches) piece image → HoldsLog header catalogue (batches ++ txns ∷ []) image
   one_more image are is = record {
-    log = with_batch text catalogue batches txns are body;
+    log = with_batch header catalogue batches txns are body;
     shut = record {
       gate = 0;
       rest = is.rest;
-      split = is.split ∙ ap (λ (p : List ℕ). log_prefix text batches ++ (1 ∷ (p ++ is.rest))) framed ∙ ap (λ (l : List ℕ). log_prefix text batches ++ (1 ∷ l)) (append_assoc (body_bytes txns) (0 ∷ []) is.rest) ∙ sym (prefix_pushed text batches txns (0 ∷ is.rest));
+      split = is.split ∙ ap (λ (p : List ℕ). log_prefix header batches ++ (1 ∷ (p ++ is.rest))) framed ∙ ap (λ (l : List ℕ). log_prefix header batches ++ (1 ∷ l)) (append_assoc (body_bytes txns) (0 ∷ []) is.rest) ∙ sym (prefix_pushed header batches txns (0 ∷ is.rest));
       shut = omega arith;
     };
   }
 
-  keeps : (a b : DiskHistory) → ShutOrOpen (log_prefix text batches) piece a b → KeepsOrAdds text catalogue batches txns a b
-  keeps a b run alone = weaken (λ image. IsShut (log_prefix text batches) image ⊎ IsOpen (log_prefix text batches) piece image) (λ image. HoldsLog text catalogue batches image ⊎ HoldsLog text catalogue (batches ++ txns ∷ []) image) a b
+  keeps : (a b : DiskHistory) → ShutOrOpen (log_prefix header batches) piece a b → KeepsOrAdds header catalogue batches txns a b
+  keeps a b run alone = weaken (λ image. IsShut (log_prefix header batches) image ⊎ IsOpen (log_prefix header batches) piece image) (λ image. HoldsLog header catalogue batches image ⊎ HoldsLog header catalogue (batches ++ txns ∷ []) image) a b
       (λ image is. ⊎_elim (λ shut. inl (record { log = alone.has.log; shut = shut })) (λ opened. inr (one_more image alone.has.log opened)) is)
       (run (record { one = alone.one; has = alone.has.shut }))
 
-  adds : (a b : DiskHistory) → Opens (log_prefix text batches) piece a b → AddsBatch text catalogue batches txns a b
+  adds : (a b : DiskHistory) → Opens (log_prefix header batches) piece a b → AddsBatch header catalogue batches txns a b
   adds a b run alone = let opened = run (record { one = alone.one; has = alone.has.shut }) in record { one = opened.one; has = one_more b.now.seen alone.has.log opened.has }
 
-  pub keeps_or_adds : (a b : Option DiskHistory) → BothKnown (ShutOrOpen (log_prefix text batches) piece) a b → BothKnown (KeepsOrAdds text catalogue batches txns) a b
-  keeps_or_adds = both (ShutOrOpen (log_prefix text batches) piece) (KeepsOrAdds text catalogue batches txns) keeps
+  pub keeps_or_adds : (a b : Option DiskHistory) → BothKnown (ShutOrOpen (log_prefix header batches) piece) a b → BothKnown (KeepsOrAdds header catalogue batches txns) a b
+  keeps_or_adds = both (ShutOrOpen (log_prefix header batches) piece) (KeepsOrAdds header catalogue batches txns) keeps
 
-  pub adds_batch : (a b : Option DiskHistory) → BothKnown (Opens (log_prefix text batches) piece) a b → BothKnown (AddsBatch text catalogue batches txns) a b
-  adds_batch = both (Opens (log_prefix text batches) piece) (AddsBatch text catalogue batches txns) adds
+  pub adds_batch : (a b : Option DiskHistory) → BothKnown (Opens (log_prefix header batches) piece) a b → BothKnown (AddsBatch header catalogue batches txns) a b
+  adds_batch = both (Opens (log_prefix header batches) piece) (AddsBatch header catalogue batches txns) adds
 
 -- ---- what stands ready
 
@@ -117,13 +120,13 @@ ready_same a b m n e = (ready_piece e, ready_count e)
 pub ready_parts : (stage other : Stage) (piece body : List ℕ) (m n : ℕ) → stage ≡ Ready piece m → stage ≡ other → other ≡ Ready body n → (piece ≡ body) × (m ≡ n)
 ready_parts stage other piece body m n is view there = ready_same piece body m n (sym is ∙ view ∙ there)
 
-pub after_so : (text : List ℕ) (batches : List (List Txn)) (txns : List Txn) (gate new : NextGate) (count len : ℕ) → count ≡ length txns → len ≡ 1 + length (body_bytes txns) → new ≡ gate_after count len gate
-    → IsAfter text batches gate → IsAfter text (batches ++ txns ∷ []) new
-after_so text batches txns gate new count len counted long e is =
-    let there : IsAfter text (batches ++ txns ∷ []) (gate_after (length txns) (1 + length (body_bytes txns)) gate) = after_more text batches txns gate is in
-    let with_count : IsAfter text (batches ++ txns ∷ []) (gate_after count (1 + length (body_bytes txns)) gate) = subst (λ (n : ℕ). IsAfter text (batches ++ txns ∷ []) (gate_after n (1 + length (body_bytes txns)) gate)) (sym counted) there in
-    let with_len : IsAfter text (batches ++ txns ∷ []) (gate_after count len gate) = subst (λ (n : ℕ). IsAfter text (batches ++ txns ∷ []) (gate_after count n gate)) (sym long) with_count in
-    subst (λ (g : NextGate). IsAfter text (batches ++ txns ∷ []) g) (sym e) with_len
+pub after_so : (header : Header) (batches : List (List Txn)) (txns : List Txn) (gate new : NextGate) (count len : ℕ) → count ≡ length txns → len ≡ 1 + length (body_bytes txns) → new ≡ gate_after count len gate
+    → IsAfter header batches gate → IsAfter header (batches ++ txns ∷ []) new
+after_so header batches txns gate new count len counted long e is =
+    let there : IsAfter header (batches ++ txns ∷ []) (gate_after (length txns) (1 + length (body_bytes txns)) gate) = after_more header batches txns gate is in
+    let with_count : IsAfter header (batches ++ txns ∷ []) (gate_after count (1 + length (body_bytes txns)) gate) = subst (λ (n : ℕ). IsAfter header (batches ++ txns ∷ []) (gate_after n (1 + length (body_bytes txns)) gate)) (sym counted) there in
+    let with_len : IsAfter header (batches ++ txns ∷ []) (gate_after count len gate) = subst (λ (n : ℕ). IsAfter header (batches ++ txns ∷ []) (gate_after count n gate)) (sym long) with_count in
+    subst (λ (g : NextGate). IsAfter header (batches ++ txns ∷ []) g) (sym e) with_len
 
 -- the gate after what was ready
 pub gate_so : (txns : List Txn) (inside old new : NextGate) (count len : ℕ) → count ≡ length txns → len ≡ 1 + length (body_bytes txns) → new ≡ gate_after count len inside → inside ≡ old
@@ -133,16 +136,16 @@ gate_so txns inside old new count len counted long e same =
 
 -- a log that ended at its gate ends at the next one, when a batch was added
 pub ends_again : (R : DiskHistory → DiskHistory → Type 0) (old new : NextGate) (before after : Option DiskHistory) (txns : List Txn) → BothKnown R before after → IfKnown (λ h. LogEndsAt old h.now) before
-    → ((text : List ℕ) (batches : List (List Txn)) → IsAfter text batches old → BothKnown (AddsBatch text old.catalogue batches txns) before after)
-    → ((text : List ℕ) (batches : List (List Txn)) → IsAfter text batches old → IsAfter text (batches ++ txns ∷ []) new) → new.catalogue ≡ old.catalogue → IfKnown (λ h. LogEndsAt new h.now) after
+    → ((header : Header) (batches : List (List Txn)) → IsAfter header batches old → BothKnown (AddsBatch header old.catalogue batches txns) before after)
+    → ((header : Header) (batches : List (List Txn)) → IsAfter header batches old → IsAfter header (batches ++ txns ∷ []) new) → new.catalogue ≡ old.catalogue → IfKnown (λ h. LogEndsAt new h.now) after
 ends_again R old new None None txns both ends adds following same = tt
 ends_again R old new None (Some b) txns both ends adds following same = absurd both
 ends_again R old new (Some a) None txns both ends adds following same = absurd both
 ends_again R old new (Some a) (Some b) txns both ends adds following same = record {
-  text = ends.text;
+  header = ends.header;
   batches = ends.batches ++ txns ∷ [];
-  holds = subst (λ (c : CatalogueState). OneImage (HoldsLog ends.text c (ends.batches ++ txns ∷ [])) b.now) (sym same) (adds ends.text ends.batches ends.after ends.holds);
-  after = following ends.text ends.batches ends.after;
+  holds = subst (λ (c : CatalogueState). OneImage (HoldsLog ends.header c (ends.batches ++ txns ∷ [])) b.now) (sym same) (adds ends.header ends.batches ends.after ends.holds);
+  after = following ends.header ends.batches ends.after;
 }
 
 -- there are bytes up to each offset
@@ -152,13 +155,13 @@ up_to (suc offset) = let before = up_to offset in (0 ∷ before.0, omega (arith,
 
 -- and if adding it failed, each image ends at the gate, or after the batch
 pub ends_torn : (R : DiskHistory → DiskHistory → Type 0) (gate : NextGate) (before after : Option DiskHistory) (txns : List Txn) → BothKnown R before after → IfKnown (λ h. LogEndsAt gate h.now) before
-    → ((text : List ℕ) (batches : List (List Txn)) → IsAfter text batches gate → BothKnown (KeepsOrAdds text gate.catalogue batches txns) before after)
+    → ((header : Header) (batches : List (List Txn)) → IsAfter header batches gate → BothKnown (KeepsOrAdds header gate.catalogue batches txns) before after)
     → IfKnown (λ h. LogEndsAtEither gate (gate_after (length txns) (1 + length (body_bytes txns)) gate) h.now) after
 ends_torn R gate None None txns both at keeps = tt
 ends_torn R gate None (Some b) txns both at keeps = absurd both
 ends_torn R gate (Some a) None txns both at keeps = absurd both
-ends_torn R gate (Some a) (Some b) txns both at keeps = λ image is. either image (last_leaves (λ i. HoldsLog at.text gate.catalogue at.batches i ⊎ HoldsLog at.text gate.catalogue (at.batches ++ txns ∷ []) i) a b (keeps at.text at.batches at.after at.holds) image is)
+ends_torn R gate (Some a) (Some b) txns both at keeps = λ image is. either image (last_leaves (λ i. HoldsLog at.header gate.catalogue at.batches i ⊎ HoldsLog at.header gate.catalogue (at.batches ++ txns ∷ []) i) a b (keeps at.header at.batches at.after at.holds) image is)
   where
-    either : (image : List ℕ) → HoldsLog at.text gate.catalogue at.batches image ⊎ HoldsLog at.text gate.catalogue (at.batches ++ txns ∷ []) image → LogEndsAt gate (settled image) ⊎ LogEndsAt (gate_after (length txns) (1 + length (body_bytes txns)) gate) (settled image)
-    either image (inl holds) = inl (record { text = at.text; batches = at.batches; holds = record { one = refl; has = holds }; after = at.after })
-    either image (inr holds) = inr (record { text = at.text; batches = at.batches ++ txns ∷ []; holds = record { one = refl; has = holds }; after = after_more at.text at.batches txns gate at.after })
+    either : (image : List ℕ) → HoldsLog at.header gate.catalogue at.batches image ⊎ HoldsLog at.header gate.catalogue (at.batches ++ txns ∷ []) image → LogEndsAt gate (settled image) ⊎ LogEndsAt (gate_after (length txns) (1 + length (body_bytes txns)) gate) (settled image)
+    either image (inl holds) = inl (record { header = at.header; batches = at.batches; holds = record { one = refl; has = holds }; after = at.after })
+    either image (inr holds) = inr (record { header = at.header; batches = at.batches ++ txns ∷ []; holds = record { one = refl; has = holds }; after = after_more at.header at.batches txns gate at.after })

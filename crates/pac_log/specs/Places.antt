@@ -9,12 +9,14 @@ use Rattle.pac_log.specs.declared.log.Stage.{Stage}
 use Rattle.pac_log.specs.declared.log.Stage.TheVariants.{Waiting, Ready, Failed}
 use Rattle.pac_log.specs.declared.log.LogParts.{LogParts}
 use Rattle.pac_log.specs.Bodies.{body_bytes, IsBody}
-use Rattle.pac_log.specs.Logs.{log_prefix, all_txns, HoldsLog}
+use Rattle.pac_log.specs.declared.header.Header.{Header}
+use Rattle.pac_log.specs.Logs.{log_prefix, number_after, HoldsLog}
 
--- the gate that comes after these batches
-pub record IsAfter (text : List ℕ) (batches : List (List Txn)) (gate : NextGate) : Type 0 where
-  pub place : gate.place ≡ length (log_prefix text batches)
-  pub txns : gate.txns ≡ length (all_txns batches)
+-- the gate that comes after these batches of a log with this header
+pub record IsAfter (header : Header) (batches : List (List Txn)) (gate : NextGate) : Type 0 where
+  pub headed : gate.header ≡ header
+  pub place : gate.place ≡ length (log_prefix header batches)
+  pub txns : gate.txns ≡ number_after header batches
 
 -- these transactions are a body of the log's catalogue, and it stands ready, with a closed gate after it
 pub record IsPrepared (log : LogParts) (txns : List Txn) : Type 0 where
@@ -45,7 +47,7 @@ need_of place txns = place + 1 + length (body_bytes txns) + 1
 
 -- a crash leaves one image, that of a log with this catalogue, and the gate that comes next is the one after its batches
 pub record LogEndsAt (gate : NextGate) (state : DiskState) : Type 0 where
-  pub text : List ℕ
+  pub header : Header
   pub batches : List (List Txn)
-  pub holds : OneImage (HoldsLog text gate.catalogue batches) state
-  pub after : IsAfter text batches gate
+  pub holds : OneImage (HoldsLog header gate.catalogue batches) state
+  pub after : IsAfter header batches gate

@@ -3,12 +3,13 @@ ghost use Rattle.std.specs.Prelude.{◌≡◌, ◌<◌, ◌≤◌, ℕ, [], ◌�
 ghost use Rattle.pac_outside.specs.Causes.{EndsAtFault, Faulted, one_more};
 ghost use Rattle.pac_outside.specs.Disk.{BothKnown, IfKnown, settled};
 ghost use Rattle.pac_types.specs.Typing.{CatalogueState};
-ghost use Rattle.pac_log.specs.Logs.{HoldsLog, header_bytes};
+ghost use Rattle.pac_log.specs.Logs.{HoldsLog, header_bytes, header_with};
+ghost use Rattle.pac_log.specs.declared.header.HeaderForm.TheVariants.{First};
 ghost use Rattle.pac_types.specs.Accepted.{IsAccepted};
 ghost use Rattle.pac_outside.specs.GateByte.{OneImage};
 
-use crate::CreateError;
-use crate::header::{HEADER_LEN, put_header};
+use crate::header::header_and_gate;
+use crate::{CreateError, HeaderForm};
 use pac_outside::{Disk, write_and_sync};
 use std::alloc::Global;
 
@@ -25,8 +26,8 @@ pub fn create<D: Disk>(alloc: Global, disk: &mut D, text: &[u8]) -> Result<(), C
     requires { (catalogue : CatalogueState) × IsAccepted text.now catalogue }
 
     // From Ok on each crash leaves the header and a closed gate, which are the log of this text, without a batch.
-    ensures bytes { OnOk result (BothKnown (λ old new. new.now ≡ settled (header_bytes text.now ++ 0 ∷ [])) (D.known disk.old) (D.known disk.new)) }
-    ensures made { OnOk result ((catalogue : CatalogueState) → IsAccepted text.now catalogue → BothKnown (λ old new. OneImage (HoldsLog text.now catalogue []) new.now) (D.known disk.old) (D.known disk.new)) }
+    ensures bytes { OnOk result (BothKnown (λ old new. new.now ≡ settled (header_bytes (header_with First text.now) ++ 0 ∷ [])) (D.known disk.old) (D.known disk.new)) }
+    ensures made { OnOk result ((catalogue : CatalogueState) → IsAccepted text.now catalogue → BothKnown (λ old new. OneImage (HoldsLog (header_with First text.now) catalogue []) new.now) (D.known disk.old) (D.known disk.new)) }
     ensures empty { OnOk result (IfKnown (λ old. length old.now.seen ≡ 0) (D.known disk.old)) }
     ensures not_empty { (len : ℕ) → IsErrOf result (CreateError.NotEmpty len) → (0 < len) × IfKnown (λ old. len ≡ length old.now.seen) (D.known disk.old) }
     ensures kept { OnErr result (¬ IsErrOf result CreateError.DiskFault → D.known disk.new ≡ D.known disk.old) }
@@ -38,8 +39,6 @@ pub fn create<D: Disk>(alloc: Global, disk: &mut D, text: &[u8]) -> Result<(), C
     if length > 0 {
         return Err(CreateError::NotEmpty { length });
     }
-    let mut bytes = Vec::with_capacity(alloc, HEADER_LEN + text.len() + 1)?;
-    put_header(&mut bytes, text)?;
-    bytes.push(0)?; // the closed gate
+    let bytes = header_and_gate(alloc, HeaderForm::First, text)?;
     Ok(write_and_sync(disk, 0, &bytes)?)
 }

@@ -5,6 +5,8 @@
 //!   log; [`LogReader::next_batch`] returns its batches one after another, and [`LogReader::rewind`] goes back to the first.
 //! - [`Log`] stands at the end of a log. [`Log::prepare`] encodes a batch in memory. [`Log::commit`] writes it after
 //!   the closed gate byte, syncs, opens the gate byte, and syncs; it takes no memory.
+//! - [`Log::plan_next`] makes the log ready that goes on after this one, a [`Segment`]: its [`HeaderForm`] says how many
+//!   transactions came before, its base. [`Segment::begin`] writes it over a device.
 //! - [`write_body`], [`body_len`]: the body of a batch. [`read_link`]: a body and the gate byte after it, a [`Link`];
 //!   or the first fault from the left, a [`LinkFault`] of some [`DamageKind`].
 //!
@@ -19,7 +21,9 @@
 //! log.commit(&mut disk)?;
 //! ```
 //!
-//! A gate byte is open where it is 1; any other byte ends the log, whatever follows. A body is the number of
+//! A [`Header`] of the first form is the name `PACMLOG1`, the length of the text in four bytes, and the text; the base is 0.
+//! One of the later form has `PACMLOG2` and the base in eight bytes in place of the first name; the base is at most
+//! [`MAX_BASE`], so that all numbers of transactions have 64 bits. A gate byte is open where it is 1; any other byte ends the log, whatever follows. A body is the number of
 //! transactions in four bytes, the length of their entries in four bytes, and the entries of `pac_entry`. At each
 //! moment of a commit, after an error too, a crash leaves the batches before, or these and the new one (`any_moment`);
 //! after Ok it leaves the new one (`committed`). After a call of the device that failed the log has failed. `LogFull`
@@ -42,14 +46,17 @@ mod link;
 mod log;
 mod position;
 mod reader;
+mod segment;
 
 pub use body::{body_len, write_body};
 pub use creation::create;
 pub use damage::{DamageKind, LinkError, LinkFault};
 pub use errors::{CreateError, LogError, PrepareError};
+pub use header::{Header, HeaderForm};
 pub use laws::{one_gate, one_log};
-pub use limits::{MAX_ENTRIES_LEN, MAX_LOG_LEN};
+pub use limits::{MAX_BASE, MAX_ENTRIES_LEN, MAX_LOG_LEN};
 pub use link::{Link, read_link};
 pub use log::{Log, LogParts, Stage};
 pub use position::{NextGate, Position};
 pub use reader::{LogReader, ReaderParts};
+pub use segment::Segment;

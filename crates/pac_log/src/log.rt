@@ -1,21 +1,23 @@
 // Writes a log.
-ghost use Rattle.std.specs.Prelude.{◌≡◌, ◌↔◌, ◌<◌, ◌≤◌, ◌+◌, ◌-◌, ◌^◌, ◌∷◌, ◌++◌, [], ℕ, List, length, min, All, OnOk, OnErr, IsErrOf, true};
+ghost use Rattle.std.specs.Prelude.{◌≡◌, ◌↔◌, ◌<◌, ◌≤◌, ◌+◌, ◌-◌, ◌^◌, ◌∷◌, ◌++◌, [], ℕ, List, length, min, All, IfOk, OnOk, OnErr, IsErrOf, true};
 ghost use Rattle.pac_outside.specs.Causes.{EndsAtFault, HasCause};
 ghost use Rattle.pac_outside.specs.Disk.{BothKnown, IsDurable, IfKnown};
 ghost use Rattle.pac_ops.specs.declared.transaction.Txn.{Txn as ATxn};
 ghost use Rattle.pac_types.specs.Fits.{TxnFits};
 ghost use Rattle.pac_entry.specs.declared.limits.TheConstants.{MAX_BODY_LEN};
-ghost use Rattle.pac_log.specs.declared.limits.TheConstants.{MAX_LOG_LEN};
+ghost use Rattle.pac_log.specs.declared.header.Header.{Header as AHeader};
+ghost use Rattle.pac_log.specs.declared.limits.TheConstants.{MAX_BASE, MAX_LOG_LEN};
 ghost use Rattle.pac_log.specs.Bodies.{body_bytes};
-ghost use Rattle.pac_log.specs.Logs.{AddsBatch, KeepsOrAdds};
-ghost use Rattle.pac_log.specs.Gates.{gate_after};
+ghost use Rattle.pac_log.specs.Logs.{AddsBatch, KeepsOrAdds, base_of};
+ghost use Rattle.pac_log.specs.Gates.{gate_after, next_segment};
 ghost use Rattle.pac_log.specs.Places.{LogEndsAt, HasFailed, IsAfter, IsPrepared, HasReady, need_of};
 ghost use Rattle.pac_log.specs.Torn.{LogEndsAtEither};
 
 use crate::body::write_measured;
+use crate::header::MAX_HEAD_LEN;
 use crate::position::Position;
-use crate::{LogReader, MAX_LOG_LEN, PrepareError, body_len};
-use pac_base::{Listed, listed};
+use crate::{LogReader, MAX_LOG_LEN, PrepareError, Segment, body_len};
+use pac_base::{Listed, NoMemory, listed};
 use pac_ops::Batch;
 use pac_outside::{Disk, Failed, GATE_SHUT, open_after};
 use std::alloc::Global;
@@ -83,6 +85,52 @@ impl Log {
         &self.parts.gate
     }
 
+    /// How many transactions came before the segment's. Takes no memory.
+    pub fn base(&self) -> u64
+        ensures { result ≡ base_of self.now.gate.header }
+    {
+        self.parts.gate.base()
+    }
+
+    /// The text of the log's catalogue. Takes no memory.
+    pub fn text(&self) -> &[u8]
+        ensures { result.now ≡ self.now.gate.header.text }
+    {
+        self.parts.gate.header().text.as_slice()
+    }
+
+    /// The offset of the first gate of the segment that comes next. Takes no memory.
+    pub fn next_place(&self) -> u64
+        ensures { result ≡ (next_segment self.now.gate).place }
+    {
+        MAX_HEAD_LEN as u64 + self.text().len() as u64
+    }
+
+    /// Makes the segment ready that comes after this log, in memory.
+    ///
+    /// # Errors
+    ///
+    /// `NoMemory` where there was no memory for its header, or for a copy of the catalogue.
+    pub fn plan_next(&self) -> Result<Segment, NoMemory>
+        requires { self.now.gate.txns ≤ MAX_BASE }
+        ensures { IfOk result (λ segment. segment.gate ≡ next_segment self.now.gate) }
+    {
+        Segment::after(self.alloc, &self.parts.gate)
+    }
+
+    // The log of a segment without a batch.
+    pub(crate) fn begun(alloc: Global, gate: Position) -> Log
+        ensures { result ≡ record { gate = gate; stage = Stage.Waiting } }
+    {
+        Log {
+            alloc,
+            parts: LogParts {
+                gate,
+                stage: Stage::Waiting,
+            },
+        }
+    }
+
     /// Makes a batch ready to be committed. It writes the batch's body into memory, once.
     ///
     /// # Errors
@@ -138,14 +186,14 @@ impl Log {
         requires ends { IfKnown (λ old. LogEndsAt self.old.gate old.now) (D.known disk.old) }
 
         // At each moment a crash leaves the batches before, or these and the new one.
-        ensures any_moment { (text : List ℕ) (batches : List (List ATxn)) (txns : List ATxn) → IsAfter text batches self.old.gate → IsPrepared self.old txns
-            → BothKnown (KeepsOrAdds text self.old.gate.catalogue batches txns) (D.known disk.old) (D.known disk.new) }
+        ensures any_moment { (header : AHeader) (batches : List (List ATxn)) (txns : List ATxn) → IsAfter header batches self.old.gate → IsPrepared self.old txns
+            → BothKnown (KeepsOrAdds header self.old.gate.catalogue batches txns) (D.known disk.old) (D.known disk.new) }
 
         // Afterwards it leaves the new one too, and the log stands after it.
-        ensures committed { OnOk result ((text : List ℕ) (batches : List (List ATxn)) (txns : List ATxn) → IsAfter text batches self.old.gate → IsPrepared self.old txns
-            → BothKnown (AddsBatch text self.old.gate.catalogue batches txns) (D.known disk.old) (D.known disk.new)) }
-        ensures after { OnOk result ((text : List ℕ) (batches : List (List ATxn)) (txns : List ATxn) → IsAfter text batches self.old.gate → IsPrepared self.old txns
-            → IsAfter text (batches ++ txns ∷ []) self.new.gate) }
+        ensures committed { OnOk result ((header : AHeader) (batches : List (List ATxn)) (txns : List ATxn) → IsAfter header batches self.old.gate → IsPrepared self.old txns
+            → BothKnown (AddsBatch header self.old.gate.catalogue batches txns) (D.known disk.old) (D.known disk.new)) }
+        ensures after { OnOk result ((header : AHeader) (batches : List (List ATxn)) (txns : List ATxn) → IsAfter header batches self.old.gate → IsPrepared self.old txns
+            → IsAfter header (batches ++ txns ∷ []) self.new.gate) }
         ensures gate { OnOk result ((txns : List ATxn) → IsPrepared self.old txns → self.new.gate ≡ gate_after (length txns) (1 + length (body_bytes txns)) self.old.gate) }
         ensures still_ends { OnOk result ((txns : List ATxn) → IsPrepared self.old txns → IfKnown (λ new. LogEndsAt self.new.gate new.now) (D.known disk.new)) }
         // After an error each image ends where the log ended, or after the batch.
@@ -154,6 +202,7 @@ impl Log {
         // Nothing but the body and the bytes of both gates is written.
         ensures durable { OnOk result ((txns : List ATxn) → IsPrepared self.old txns → BothKnown (IsDurable self.old.gate.place (1 ∷ (body_bytes txns ++ 0 ∷ []))) (D.known disk.old) (D.known disk.new)) }
         ensures catalogue { self.new.gate.catalogue ≡ self.old.gate.catalogue }
+        ensures headed { self.new.gate.header ≡ self.old.gate.header }
         ensures waits { OnOk result (self.new.stage ≡ Stage.Waiting) }
         ensures failed { OnErr result (self.new ≡ record { gate = self.old.gate; stage = Stage.Failed }) }
 

@@ -4,11 +4,11 @@ ghost use Rattle.pac_outside.specs.Causes.{Faulted, one_more};
 ghost use Rattle.pac_outside.specs.Disk.{IfKnown};
 ghost use Rattle.pac_ops.specs.declared.transaction.Txn.{Txn as ATxn};
 ghost use Rattle.pac_types.specs.Fits.{TxnFits};
-ghost use Rattle.pac_types.specs.OperationLimits.{HasFewOperations};
 ghost use Rattle.pac_types.specs.Typing.{CatalogueState};
 ghost use Rattle.pac_bytes.specs.Reading.{reported_as};
 ghost use Rattle.pac_log.specs.declared.damage.DamageKind.{DamageKind as ADamageKind};
-ghost use Rattle.pac_log.specs.Logs.{HoldsLog};
+ghost use Rattle.pac_log.specs.declared.header.Header.{Header as AHeader};
+ghost use Rattle.pac_log.specs.Logs.{HoldsLog, base_of};
 ghost use Rattle.pac_log.specs.Places.{IsAfter};
 ghost use Rattle.pac_log.specs.Looked.{IsSpelled};
 ghost use Rattle.pac_log.specs.Reading.{IsNextBatch, IsStore, ReportsOfImage, StandsAfter, ReportsHeld, after_gate, at_gate, first_batch, further};
@@ -16,10 +16,10 @@ ghost use Rattle.pac_log.specs.Readers.{at_first};
 
 use crate::damage::short_at;
 use crate::gate_bytes::bytes_from;
-use crate::header::{HEADER_LEN, accepted, text_len};
+use crate::header::{MAX_HEAD_LEN, head_of, header_catalogue};
 use crate::position::Position;
-use crate::{Link, LinkFault, LogError, read_link};
-use pac_base::Refusal;
+use crate::{Header, Link, LinkFault, LogError, read_link};
+use pac_base::{Refusal, listed};
 use pac_ops::Batch;
 use pac_outside::{Disk, GATE_OPEN, read_piece};
 use pac_types::Catalogue;
@@ -32,8 +32,6 @@ pub struct ReaderParts {
     pub gate: Position,
     /// Whether its last answer was that the log ends here.
     pub is_at_end: bool,
-    /// The offset of the log's first gate, from 0.
-    pub first: u64,
 }
 
 /// A reader of a log, which goes from gate to gate.
@@ -67,10 +65,9 @@ impl LogReader {
     /// No damage is reported: no batch is read.
     pub fn attach<D: Disk>(alloc: Global, disk: &mut D) -> Result<LogReader, LogError>
         // The header is right, and the reader stands before the first batch.
-        ensures store { IfOk result (λ reader. IfKnown (λ old. (text : List ℕ) × IsStore text reader.gate.catalogue old.now.seen × StandsAfter text [] reader.gate old.now.seen) (D.known disk.old)) }
-        ensures first { IfOk result (λ reader. reader.gate.txns ≡ 0) }
+        ensures store { IfOk result (λ reader. IfKnown (λ old. IsStore reader.gate.header reader.gate.catalogue old.now.seen × StandsAfter reader.gate.header [] reader.gate old.now.seen) (D.known disk.old)) }
         ensures begins { IfOk result (λ reader. at_first reader ≡ reader) }
-        ensures no_store { IsErrOf result LogError.NoStore → IfKnown (λ old. (text : List ℕ) (catalogue : CatalogueState) → ¬ IsStore text catalogue old.now.seen) (D.known disk.old) }
+        ensures no_store { IsErrOf result LogError.NoStore → IfKnown (λ old. (header : AHeader) (catalogue : CatalogueState) → ¬ IsStore header catalogue old.now.seen) (D.known disk.old) }
         ensures whole { (at : ℕ) (kind : ADamageKind) → ¬ IsErrOf result (LogError.Damaged at kind) }
 
         // The device is only read, and no call of it comes after one that failed.
@@ -80,23 +77,26 @@ impl LogReader {
         ensures counted { IsErrOf result LogError.DiskFault → D.faults disk.new ≡ one_more (D.faults disk.old) }
         ensures kept { ¬ IsErrOf result LogError.DiskFault → D.faults disk.new ≡ D.faults disk.old }
     {
-        let head = read_piece(alloc, disk, 0, HEADER_LEN)?;
-        let Some(len) = text_len(&head) else {
+        let start = read_piece(alloc, disk, 0, MAX_HEAD_LEN)?;
+        let Some((form, len)) = head_of(&start) else {
             return Err(LogError::NoStore);
         };
-        let text = read_piece(alloc, disk, HEADER_LEN as u64, len + 1)?;
+        let mut text = read_piece(alloc, disk, form.head_len() as u64, len + 1)?;
         if text.len() <= len {
             return Err(LogError::NoStore);
         }
-        let catalogue = accepted(alloc, &text[..len])?;
-        let first = (HEADER_LEN + len) as u64;
-        let gate = Position::first(catalogue, first);
+        text.truncate(len);
+        let catalogue = match header_catalogue(alloc, &text) {
+            Ok(catalogue) => catalogue,
+            Err(refusal) => return Err(refusal),
+        };
+        let text = listed(text);
+        let gate = Position::first(catalogue, Header { form, text });
         Ok(LogReader {
             alloc,
             parts: ReaderParts {
                 gate,
                 is_at_end: false,
-                first,
             },
         })
     }
@@ -105,9 +105,22 @@ impl LogReader {
     pub fn rewind(&mut self)
         ensures { self.new ≡ at_first self.old }
     {
-        let first = self.parts.first;
-        self.parts.gate.rewind(first);
+        self.parts.gate.rewind();
         self.parts.is_at_end = false;
+    }
+
+    /// How many transactions came before the log's. Takes no memory.
+    pub fn base(&self) -> u64
+        ensures { result ≡ base_of self.now.gate.header }
+    {
+        self.parts.gate.base()
+    }
+
+    /// The text of the log's catalogue. Takes no memory.
+    pub fn text(&self) -> &[u8]
+        ensures { result.now ≡ self.now.gate.header.text }
+    {
+        self.parts.gate.header().text.as_slice()
     }
 
     /// The gate that comes next.
@@ -134,18 +147,18 @@ impl LogReader {
         ensures exact { IfKnown (λ old. ReportsHeld result (at_gate self.old.gate.catalogue old.now.seen self.old.gate.place)) (D.known disk.old) }
 
         // After batches that stand in the image it is the next one, or these are all, or the image is damaged there.
-        ensures reads_on { (text : List ℕ) (batches : List (List ATxn)) → IfKnown (λ old. StandsAfter text batches self.old.gate old.now.seen → ReportsOfImage text batches self.old.gate self.new.gate old.now.seen result) (D.known disk.old) }
+        ensures reads_on { (header : AHeader) (batches : List (List ATxn)) → IfKnown (λ old. StandsAfter header batches self.old.gate old.now.seen → ReportsOfImage header batches self.old.gate self.new.gate old.now.seen result) (D.known disk.old) }
 
         // The batches that the image holds are read again.
-        ensures again { (text : List ℕ) (before after : List (List ATxn)) → IfKnown (λ old. HoldsLog text self.old.gate.catalogue (before ++ after) old.now.seen → IsAfter text before self.old.gate → ReportsHeld result (Ok (first_batch after))) (D.known disk.old) }
+        ensures again { (header : AHeader) (before after : List (List ATxn)) → IfKnown (λ old. HoldsLog header self.old.gate.catalogue (before ++ after) old.now.seen → IsAfter header before self.old.gate → ReportsHeld result (Ok (first_batch after))) (D.known disk.old) }
 
         // On every device the batch runs on and fits the catalogue, and the reader stands after it.
         ensures batch { IfOk result (λ found. IfSome found (IsNextBatch self.old.gate self.new.gate)) }
         ensures fits { IfOk result (λ found. IfSome found (λ batch. All (TxnFits self.old.gate.catalogue) batch.txns)) }
         ensures goes_on { IfOk result (λ found. IfSome found (λ batch. self.new.is_at_end ≡ false)) }
-        ensures end { result ≡ Ok None → self.new ≡ record { gate = self.old.gate; is_at_end = true; first = self.old.first } }
-        ensures refused { OnErr result (self.new ≡ record { gate = self.old.gate; is_at_end = false; first = self.old.first }) }
-        ensures first { self.new.first ≡ self.old.first }
+        ensures end { result ≡ Ok None → self.new ≡ record { gate = self.old.gate; is_at_end = true } }
+        ensures refused { OnErr result (self.new ≡ record { gate = self.old.gate; is_at_end = false }) }
+        ensures headed { self.new.gate.header ≡ self.old.gate.header }
         ensures known { ¬ IsErrOf result LogError.NoStore }
 
         // The device is only read, and no call of it comes after one that failed.
@@ -165,9 +178,9 @@ impl LogReader {
         ensures batch { IfOk result (λ found. IfSome found (IsNextBatch self.old.gate self.new.gate)) }
         ensures fits { IfOk result (λ found. IfSome found (λ batch. All (TxnFits self.old.gate.catalogue) batch.txns)) }
         ensures goes_on { IfOk result (λ found. IfSome found (λ batch. self.new.is_at_end ≡ false)) }
-        ensures end { result ≡ Ok None → self.new ≡ record { gate = self.old.gate; is_at_end = true; first = self.old.first } }
-        ensures refused { OnErr result (self.new ≡ record { gate = self.old.gate; is_at_end = false; first = self.old.first }) }
-        ensures first { self.new.first ≡ self.old.first }
+        ensures end { result ≡ Ok None → self.new ≡ record { gate = self.old.gate; is_at_end = true } }
+        ensures refused { OnErr result (self.new ≡ record { gate = self.old.gate; is_at_end = false }) }
+        ensures headed { self.new.gate.header ≡ self.old.gate.header }
         ensures known { ¬ IsErrOf result LogError.NoStore }
         ensures same { D.known disk.new ≡ D.known disk.old }
         ensures later { D.faults disk.old ≤ D.faults disk.new }
@@ -197,7 +210,7 @@ impl LogReader {
         ensures batch { IfOk result (λ found. IfSome found (IsNextBatch self.old.gate self.new.gate)) }
         ensures fits { IfOk result (λ found. IfSome found (λ batch. All (TxnFits self.old.gate.catalogue) batch.txns)) }
         ensures goes_on { self.new.is_at_end ≡ self.old.is_at_end }
-        ensures first { self.new.first ≡ self.old.first }
+        ensures headed { self.new.gate.header ≡ self.old.gate.header }
         ensures some { IfOk result (λ found. found ≢ None) }
         ensures refused { OnErr result (self.new ≡ self.old) }
         ensures known { ¬ IsErrOf result LogError.DiskFault }

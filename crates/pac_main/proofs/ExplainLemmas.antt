@@ -12,21 +12,18 @@ use Rattle.pac_syntax.specs.Reading.{Reads}
 use Rattle.pac_types.specs.declared.text.CatalogueFault.TheVariants.{Syntax, Typing}
 use Rattle.pac_types.specs.Typing.{CatalogueState, Types}
 use Rattle.pac_types.specs.CatalogueText.{HasCatalogue}
-use Rattle.pac_types.proofs.OneCatalogue.{catalogue_or_fault}
 use Rattle.pac_base.specs.declared.refusal.Refusal.{Refusal}
 use Rattle.pac_base.specs.declared.refusal.Refusal.TheVariants as refusal
 use Rattle.pac_outside.specs.declared.failed.ReadError.{ReadError}
 use Rattle.pac_outside.specs.declared.failed.ReadError.TheVariants as read
-use Rattle.pac_script.specs.declared.script_fault.ScriptFault.{ScriptFault}
-use Rattle.pac_script.specs.declared.script_fault.ScriptFault.TheVariants.{Catalogue, TooManyOps, Line}
-use Rattle.pac_script.specs.Script.{IsPartsFault}
-use Rattle.pac_script.specs.ScriptReading.{IsExcessFault}
-use Rattle.pac_script.proofs.OneScript.{faults_once, few_or_excess}
+use Rattle.pac_flat.specs.declared.acceptance.AcceptFault.{AcceptFault}
+use Rattle.pac_flat.specs.declared.acceptance.AcceptFault.TheVariants.{Catalogue, TooManyOps}
+use Rattle.pac_flat.specs.Unaccepted.{IsExcessFault, IsUnaccepted}
+use Rattle.pac_flat.proofs.OneAcceptance.{accepted_or_not, one_unaccepted}
 use Rattle.pac_main.specs.Causes.{GivesNoExplanation}
-use Rattle.pac_main.specs.Inputs.{input_of_read, input_of_script}
+use Rattle.pac_main.specs.Inputs.{input_of_accept, input_of_read}
 use Rattle.pac_main.specs.Streams.{Observed, AnyFaulted}
 use Rattle.pac_main.specs.Explained.{AreSlicesOf, IsTreeExplanation, IsExplanation, IsUnexplainedTree, IsTheCause, IsUnexplainedAs}
-use Rattle.pac_script.specs.Script.{IsUnaccepted}
 
 -- ---- a tree and its text
 
@@ -34,11 +31,10 @@ pub explained_text : {F : Type 0} (with_text : Bool) (text : List ℕ) (tree : T
 explained_text {F} with_text text tree (Ok written) reads is = (tree, reads, is)
 explained_text {F} with_text text tree (Err e) reads is = tt
 
-pub unexplained_text : (text : List ℕ) (tree : Tree) (fault : ScriptFault) → Reads text tree → IsUnexplainedTree tree fault → IsUnaccepted text fault
+pub unexplained_text : (text : List ℕ) (tree : Tree) (fault : AcceptFault) → Reads text tree → IsUnexplainedTree tree fault → IsUnaccepted text fault
 unexplained_text text tree (Catalogue (Syntax f)) reads is = absurd is
 unexplained_text text tree (Catalogue (Typing f)) reads is = record { tree = tree; reads = reads; first = is }
 unexplained_text text tree (TooManyOps name count) reads is = (is.0, record { tree = tree; reads = reads; typed = is.1 }, is.2)
-unexplained_text text tree (Line number f) reads is = absurd is
 
 -- ---- what was read and the input
 
@@ -51,43 +47,35 @@ pub input-explained : (with_text : Bool) (old new : Option (List ℕ)) (items wr
 input-explained with_text old new items written gave at_end is =
     subst (λ (o : Option (List ℕ)). IfSome o (λ text. IsExplanation with_text text written)) (sym gave) (explained_known with_text items written new at_end is)
 
-same_text : (items rest : List ℕ) (fault : ScriptFault) → rest ≡ [] → IsUnaccepted items fault → IsUnaccepted (items ++ rest) fault
+same_text : (items rest : List ℕ) (fault : AcceptFault) → rest ≡ [] → IsUnaccepted items fault → IsUnaccepted (items ++ rest) fault
 same_text items rest fault end is = subst (λ (text : List ℕ). IsUnaccepted text fault) (sym (ap (λ (r : List ℕ). items ++ r) end ∙ append-nil items)) is
 
-pub unexplained_longer : (items rest : List ℕ) (fault : ScriptFault) → (length items ≤ 65536 → rest ≡ []) → IsUnaccepted items fault → IsUnaccepted (items ++ rest) fault
+pub unexplained_longer : (items rest : List ℕ) (fault : AcceptFault) → (length items ≤ 65536 → rest ≡ []) → IsUnaccepted items fault → IsUnaccepted (items ++ rest) fault
 unexplained_longer items rest (Catalogue (Syntax f)) at_end (inl long) = inl (omega (arith, length-append items rest, long.0), long.1)
 unexplained_longer items rest (Catalogue (Syntax f)) at_end (inr h) = same_text items rest (Catalogue (Syntax f)) (at_end h.0) (inr h)
 unexplained_longer items rest (Catalogue (Typing f)) at_end h = same_text items rest (Catalogue (Typing f)) (at_end h.reads.short) h
 unexplained_longer items rest (TooManyOps name count) at_end h = same_text items rest (TooManyOps name count) (at_end h.1.reads.short) h
-unexplained_longer items rest (Line number f) at_end h = absurd h
 
 -- ---- one cause
-
-as_parts_fault : (text : List ℕ) (fault : ScriptFault) → IsUnaccepted text fault → IsPartsFault text [] fault
-as_parts_fault text (Catalogue fault) h = h
-as_parts_fault text (TooManyOps name count) h = h
-as_parts_fault text (Line number f) h = absurd h
 
 has_catalogue : (with_text : Bool) (text written : List ℕ) (e : IsExplanation with_text text written) → HasCatalogue text e.2.catalogue
 has_catalogue with_text text written e = record { tree = e.0; reads = e.1; typed = e.2.typed }
 
-not_explained : (text : List ℕ) (fault : ScriptFault) (with_text : Bool) (written : List ℕ) → IsUnaccepted text fault → IsExplanation with_text text written → ⊥
-not_explained text (Catalogue fault) with_text written h e = catalogue_or_fault text e.2.catalogue fault (has_catalogue with_text text written e) h
-not_explained text (TooManyOps name count) with_text written h e = few_or_excess text e.2.catalogue h.0 name count (has_catalogue with_text text written e) e.2.is_graph.2.few h.1 h.2
-not_explained text (Line number f) with_text written h e = h
+not_explained : (text : List ℕ) (fault : AcceptFault) (with_text : Bool) (written : List ℕ) → IsUnaccepted text fault → IsExplanation with_text text written → ⊥
+not_explained text fault with_text written h e = accepted_or_not text e.2.catalogue fault (record { has = has_catalogue with_text text written e; few = e.2.is_graph.2.few }) h
 
-pub the_cause : (text : List ℕ) (fault : ScriptFault) → IsUnaccepted text fault → IsTheCause text fault
+pub the_cause : (text : List ℕ) (fault : AcceptFault) → IsUnaccepted text fault → IsTheCause text fault
 the_cause text fault h = record {
   is = h;
-  only = λ other k. faults_once text [] other fault (as_parts_fault text other k) (as_parts_fault text fault h);
+  only = λ other k. one_unaccepted text other fault k h;
   none = λ with_text written e. not_explained text fault with_text written h e;
 }
 
-unexplained_known : (items : List ℕ) (new : Option (List ℕ)) (fault : ScriptFault) → (length items ≤ 65536 → IsAtEnd new) → IsUnaccepted items fault → IsUnexplainedAs (prepend_known items new) fault
+unexplained_known : (items : List ℕ) (new : Option (List ℕ)) (fault : AcceptFault) → (length items ≤ 65536 → IsAtEnd new) → IsUnaccepted items fault → IsUnexplainedAs (prepend_known items new) fault
 unexplained_known items None fault at_end is = tt
 unexplained_known items (Some rest) fault at_end is = the_cause (items ++ rest) fault (unexplained_longer items rest fault at_end is)
 
-input-unexplained : (old new : Option (List ℕ)) (items : List ℕ) (fault : ScriptFault) → Gave old items new → (length items ≤ 65536 → IsAtEnd new) → IsUnaccepted items fault → IsUnexplainedAs old fault
+input-unexplained : (old new : Option (List ℕ)) (items : List ℕ) (fault : AcceptFault) → Gave old items new → (length items ≤ 65536 → IsAtEnd new) → IsUnaccepted items fault → IsUnexplainedAs old fault
 input-unexplained old new items fault gave at_end is = subst (λ (o : Option (List ℕ)). IsUnexplainedAs o fault) (sym gave) (unexplained_known items new fault at_end is)
 
 -- ---- why nothing is explained
@@ -96,8 +84,8 @@ pub catalogue-unread : {T : Type 0} (source : Observed) (error : ReadError) → 
 catalogue-unread source read.Failed faulted = faulted refl
 catalogue-unread source read.NoMemory faulted = tt
 
-pub no-explanation : {T : Type 0} (source : Observed) (new : Option (List ℕ)) (items : List ℕ) (error : Refusal ScriptFault) → Gave source.before items new → (length items ≤ 65536 → IsAtEnd new)
-    → ((fault : ScriptFault) → ◌≡◌ {A = Result T (Refusal ScriptFault)} (Err error) (Err (refusal.Fault fault)) → IsUnaccepted items fault) → GivesNoExplanation source (input_of_script error)
+pub no-explanation : {T : Type 0} (source : Observed) (new : Option (List ℕ)) (items : List ℕ) (error : Refusal AcceptFault) → Gave source.before items new → (length items ≤ 65536 → IsAtEnd new)
+    → ((fault : AcceptFault) → ◌≡◌ {A = Result T (Refusal AcceptFault)} (Err error) (Err (refusal.Fault fault)) → IsUnaccepted items fault) → GivesNoExplanation source (input_of_accept error)
 no-explanation source new items (refusal.Fault fault) gave at_end is = input-unexplained source.before new items fault gave at_end (is fault refl)
 no-explanation source new items refusal.NoMemory gave at_end is = tt
 
@@ -119,7 +107,6 @@ slices_push programs graphs i program graph within at so_far slices =
 
 -- ---- too many operations
 
-pub tree_excess : (tree : Tree) (catalogue : CatalogueState) (fault : ScriptFault) → Types tree catalogue → IsExcessFault catalogue fault → IsUnexplainedTree tree fault
+pub tree_excess : (tree : Tree) (catalogue : CatalogueState) (fault : AcceptFault) → Types tree catalogue → IsExcessFault catalogue fault → IsUnexplainedTree tree fault
 tree_excess tree catalogue (TooManyOps name count) typed is = (catalogue, typed, is)
 tree_excess tree catalogue (Catalogue fault) typed is = absurd is
-tree_excess tree catalogue (Line number f) typed is = absurd is

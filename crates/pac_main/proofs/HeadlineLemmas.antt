@@ -10,7 +10,8 @@ use Rattle.pac_outside.specs.Parts.{reads_of}
 use Rattle.pac_outside.proofs.Images.{one_image}
 use Rattle.pac_outside.specs.declared.devices.Devices.{Devices}
 use Rattle.pac_types.specs.Typing.{CatalogueState}
-use Rattle.pac_log.specs.Logs.{header_bytes}
+use Rattle.pac_log.specs.declared.header.HeaderForm.TheVariants.{First}
+use Rattle.pac_log.specs.Logs.{header_bytes, header_with}
 use Rattle.pac_types.specs.Accepted.{IsAccepted}
 use Rattle.pac_store.specs.Images.{Images, IfImagesKnown}
 use Rattle.pac_store.proofs.ImageLemmas.{devices-same, images-of}
@@ -70,14 +71,14 @@ not_open : ◌≢◌ {A = ℕ} 0 1
 not_open e = absurd (omega (arith, e))
 
 -- its images stand for no transactions
-new_images : (text : List ℕ) (catalogue : CatalogueState) → IsAccepted text catalogue → (log a b : List ℕ) → log ≡ header_bytes text ++ 0 ∷ [] → a ≡ 0 ∷ [] → b ≡ 0 ∷ []
+new_images : (text : List ℕ) (catalogue : CatalogueState) → IsAccepted text catalogue → (log a b : List ℕ) → log ≡ header_bytes (header_with First text) ++ 0 ∷ [] → a ≡ 0 ∷ [] → b ≡ 0 ∷ []
     → StandsFor text catalogue [] 0 (record { log = log; slot_a = a; slot_b = b })
 new_images text catalogue accepted log a b is one other = record {
   executes = record { fit = λ k d below. absurd (omega (arith, below)); held = empty; ends = refl };
   batches = [];
   log = record {
-    log = record { accepted = accepted; each = λ k d below. absurd (omega (arith, below)) };
-    shut = record { gate = 0; rest = []; split = is ∙ ap (λ (prefix : List ℕ). prefix ++ 0 ∷ []) (sym (append-nil (header_bytes text))); shut = not_open };
+    log = record { accepted = accepted; base = omega arith; each = λ k d below. absurd (omega (arith, below)) };
+    shut = record { gate = 0; rest = []; split = is ∙ ap (λ (prefix : List ℕ). prefix ++ 0 ∷ []) (sym (append-nil (header_bytes (header_with First text)))); shut = not_open };
   };
   later = [];
   prefix = refl;
@@ -89,7 +90,7 @@ new_images text catalogue accepted log a b is one other = record {
 new_devices : (text : List ℕ) (catalogue : CatalogueState) → IsAccepted text catalogue → (exit : Devices DiskHistory) → IsNewStore text exit → (images : Images) → AreImages exit images → StandsFor text catalogue [] 0 images
 new_devices text catalogue accepted exit new images are =
     new_images text catalogue accepted images.log images.slot_a images.slot_b
-    (same_image (header_bytes text ++ 0 ∷ []) images.log exit.log.now new.0 are.log) (same_image (0 ∷ []) images.slot_a exit.slot_a.now new.1 are.slot_a) (same_image (0 ∷ []) images.slot_b exit.slot_b.now new.2 are.slot_b)
+    (same_image (header_bytes (header_with First text) ++ 0 ∷ []) images.log exit.log.now new.0 are.log) (same_image (0 ∷ []) images.slot_a exit.slot_a.now new.1 are.slot_a) (same_image (0 ∷ []) images.slot_b exit.slot_b.now new.2 are.slot_b)
 
 pub new-store : (text : List ℕ) (input errors : Observed) (devices : ObservedDevices) (entry exit : Devices DiskHistory) → InitEnds 0 input errors devices
     → input.before ≡ Some text → all_known devices.before ≡ Some entry → all_known devices.after ≡ Some exit → (catalogue : CatalogueState) × AllStand text catalogue [] 0 exit

@@ -10,19 +10,17 @@ use Rattle.pac_outside.specs.declared.failed.ReadError.{ReadError}
 use Rattle.pac_outside.specs.declared.failed.ReadError.TheVariants as read
 use Rattle.pac_outside.specs.declared.devices.Devices.{Devices}
 use Rattle.pac_types.specs.Typing.{CatalogueState}
-use Rattle.pac_types.proofs.OneCatalogue.{catalogue_or_fault}
 use Rattle.pac_types.specs.Accepted.{IsAccepted}
 use Rattle.pac_store.specs.Made.{IsInUse}
 use Rattle.pac_store.specs.declared.device.DeviceName.{DeviceName}
 use Rattle.pac_store.specs.declared.errors.MakeError.{MakeError}
 use Rattle.pac_store.specs.declared.errors.MakeError.TheVariants.{NotEmpty, DiskFault, NoMemory}
-use Rattle.pac_script.specs.declared.script_fault.ScriptFault.{ScriptFault}
-use Rattle.pac_script.specs.declared.script_fault.ScriptFault.TheVariants.{Catalogue, TooManyOps, Line}
-use Rattle.pac_script.proofs.OneScript.{few_or_excess}
+use Rattle.pac_flat.specs.declared.acceptance.AcceptFault.{AcceptFault}
+use Rattle.pac_flat.specs.Unaccepted.{IsUnaccepted}
+use Rattle.pac_flat.proofs.OneAcceptance.{accepted_or_not}
 use Rattle.pac_main.specs.Causes.{GivesNoText, InitStops}
-use Rattle.pac_script.specs.Script.{IsUnaccepted}
 use Rattle.pac_main.specs.Init.{AreUntouched, IsAcceptedInput, IsNoStoreFor, IsNoStoreText, IsStoreText}
-use Rattle.pac_main.specs.Inputs.{IsAcceptedText, input_of_read, input_of_script}
+use Rattle.pac_main.specs.Inputs.{IsAcceptedText, input_of_accept, input_of_read}
 use Rattle.pac_main.specs.Stop.{stop_of_make}
 use Rattle.pac_main.specs.Streams.{Observed, ObservedDevices, AnyFaulted}
 use Rattle.pac_main.proofs.ExplainLemmas.{the_cause, unexplained_longer}
@@ -37,15 +35,10 @@ with_store old items whole has = (has, whole)
 pub store-text : (old new : Option (List ℕ)) (items : List ℕ) → Gave old items new → (length items ≤ 65536 → IsAtEnd new) → IsAcceptedText items → IsStoreText items old
 store-text old new items gave at_end has = with_store old items (whole-input old new items gave (at_end has.1.has.reads.short)) has
 
-pub not_accepted : (text : List ℕ) (fault : ScriptFault) (catalogue : CatalogueState) → IsUnaccepted text fault → IsAccepted text catalogue → ⊥
-not_accepted text (Catalogue fault) catalogue h is = catalogue_or_fault text catalogue fault is.has h
-not_accepted text (TooManyOps name count) catalogue h is = few_or_excess text catalogue h.0 name count is.has is.few h.1 h.2
-not_accepted text (Line number f) catalogue h is = h
+no_store : (text : List ℕ) (fault : AcceptFault) → IsUnaccepted text fault → IsNoStoreText text fault
+no_store text fault h = let cause = the_cause text fault h in record { is = cause.is; only = cause.only; none = λ catalogue is. accepted_or_not text catalogue fault is h }
 
-no_store : (text : List ℕ) (fault : ScriptFault) → IsUnaccepted text fault → IsNoStoreText text fault
-no_store text fault h = let cause = the_cause text fault h in record { is = cause.is; only = cause.only; none = λ catalogue is. not_accepted text fault catalogue h is }
-
-no_store_known : (items : List ℕ) (new : Option (List ℕ)) (fault : ScriptFault) → (length items ≤ 65536 → IsAtEnd new) → IsUnaccepted items fault → IsNoStoreFor (prepend_known items new) fault
+no_store_known : (items : List ℕ) (new : Option (List ℕ)) (fault : AcceptFault) → (length items ≤ 65536 → IsAtEnd new) → IsUnaccepted items fault → IsNoStoreFor (prepend_known items new) fault
 no_store_known items None fault at_end is = tt
 no_store_known items (Some rest) fault at_end is = no_store (items ++ rest) fault (unexplained_longer items rest fault at_end is)
 
@@ -55,8 +48,8 @@ text-unread source read.Failed faulted = faulted refl
 text-unread source read.NoMemory faulted = tt
 
 -- a text that is refused, is refused of the input
-pub text-refused : {T : Type 0} (source : Observed) (new : Option (List ℕ)) (items : List ℕ) (error : Refusal ScriptFault) → Gave source.before items new → (length items ≤ 65536 → IsAtEnd new)
-    → ((fault : ScriptFault) → ◌≡◌ {A = Result T (Refusal ScriptFault)} (Err error) (Err (refusal.Fault fault)) → IsUnaccepted items fault) → GivesNoText source (input_of_script error)
+pub text-refused : {T : Type 0} (source : Observed) (new : Option (List ℕ)) (items : List ℕ) (error : Refusal AcceptFault) → Gave source.before items new → (length items ≤ 65536 → IsAtEnd new)
+    → ((fault : AcceptFault) → ◌≡◌ {A = Result T (Refusal AcceptFault)} (Err error) (Err (refusal.Fault fault)) → IsUnaccepted items fault) → GivesNoText source (input_of_accept error)
 text-refused source new items (refusal.Fault fault) gave at_end is = subst (λ (o : Option (List ℕ)). IsNoStoreFor o fault) (sym gave) (no_store_known items new fault at_end (is fault refl))
 text-refused source new items refusal.NoMemory gave at_end is = tt
 

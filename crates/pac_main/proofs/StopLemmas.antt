@@ -14,19 +14,21 @@ use Rattle.pac_recover.specs.Limits.{IsFirstOver}
 use Rattle.pac_recover.specs.declared.limit.TooManyRows.{TooManyRows}
 use Rattle.pac_run.specs.declared.limits.TheConstants.{MAX_INPUT}
 use Rattle.pac_script.specs.declared.script.Script.{Script}
+use Rattle.pac_flat.specs.declared.acceptance.AcceptFault.{AcceptFault}
+use Rattle.pac_flat.proofs.OneAcceptance.{accepted_or_not}
 use Rattle.pac_script.specs.declared.script_fault.ScriptFault.{ScriptFault}
-use Rattle.pac_main.specs.Causes.{GivesNoScript, GivesNoExplanation, GivesNoText, ScriptStops, ReplayStops, ExplainStops, InitStops}
+use Rattle.pac_script.specs.declared.script_fault.ScriptFault.TheVariants.{Unaccepted, Line}
+use Rattle.pac_main.specs.Causes.{GivesNoScript, GivesNoExplanation, GivesNoText, ScriptStops, ReplayStops, IsOfCatalogue, ExplainStops, InitStops}
 use Rattle.pac_main.specs.Explained.{ExplainEnds, IsTheCause, IsUnexplainedAs}
 use Rattle.pac_main.specs.Init.{AreUntouched, InitEnds, IsAcceptedInput, IsNoStoreFor, IsNoStoreText}
 use Rattle.pac_main.specs.Inputs.{IsAcceptedText}
 use Rattle.pac_main.specs.Replay.{EndsInLimit, IsAbortOf, IsLongScript, IsOverOf, IsReadAs, IsRefusedAs, IsScriptOf, ReplayEnds, first_over_in, outcome}
-use Rattle.pac_main.specs.Stop.{line_of, status_of, stop_of_excess, stop_of_input, takes_memory}
+use Rattle.pac_main.specs.Stop.{line_of, status_of, stop_of_excess, stop_of_input, takes_memory, unaccepted_line}
 use Rattle.pac_main.specs.Streams.{AnyFaulted, IsFaultless, IsOneOf, IsReported, Observed, ObservedDevices}
 use Rattle.pac_main.specs.declared.input.InputError.{InputError}
 use Rattle.pac_main.specs.declared.input.InputError.TheVariants as input
 use Rattle.pac_main.specs.declared.stop.Stop.{Stop}
 use Rattle.pac_main.specs.declared.stop.Stop.TheVariants.{Usage, Script as ScriptStop, NotEmpty, NoStore, Damaged, Aborted, RowsOver, InputFault, OutputFault, DiskFault, NoMemory, LogFull, TooLong, TooLarge}
-use Rattle.pac_main.proofs.InitLemmas.{not_accepted}
 use Rattle.pac_main.proofs.InputLemmas.{some_is}
 use Rattle.pac_main.proofs.StatusLemmas.{ADeviceRefusal, AFullDevice, aborted_of, device_of, disk_of, input_of, long_of, never_done, output_of, over_of, refused_of}
 
@@ -159,6 +161,11 @@ module _ (limit : ℕ) (source sink : Observed) where
 pub over-stops : (limit : ℕ) (script : Script) (tables : Tables) (excess : TooManyRows) → outcome script ≡ Ok tables → IsFirstOver limit script.catalogue.tables tables excess.table excess.rows → excess.limit ≡ limit → ScriptStops limit script (stop_of_excess excess)
 over-stops limit script tables excess ends over is = ((tables, ends, over), is)
 
+-- what is reported of a catalogue's text that isn't accepted
+unaccepted_as : (P : AcceptFault → Type 0) (errors : Observed) (fault : ScriptFault) → IsOfCatalogue P fault → IsReported errors (line_of (ScriptStop fault)) → (f : AcceptFault) × P f × IsReported errors (unaccepted_line f)
+unaccepted_as P errors (Unaccepted f) h line = (f, h, line)
+unaccepted_as P errors (Line number f) h line = absurd h
+
 -- ---- `explain`
 
 module _ (with_text : Bool) (source sink : Observed) where
@@ -187,9 +194,10 @@ module _ (with_text : Bool) (source sink : Observed) where
   -- an accepted text is explained
   module _ (text : List ℕ) (accepted : IsAcceptedText text) (is : source.before ≡ Some text) where
     explains : (stop : Stop) → ExplainStops with_text source sink stop → (AnyFaulted source → ⊥) → (AnyFaulted sink → ⊥) → IsOneOf (status_of stop) (0 ∷ 9 ∷ [])
-    explains (ScriptStop fault) h reads writes =
+    explains (ScriptStop (Unaccepted fault)) h reads writes =
         let cause : IsTheCause text fault = subst (λ (o : Option (List ℕ)). IsUnexplainedAs o fault) is h in
-        absurd (not_accepted text fault accepted.0 cause.is accepted.1)
+        absurd (accepted_or_not text accepted.0 fault accepted.1 cause.is)
+    explains (ScriptStop (Line number fault)) h reads writes = absurd h
     explains InputFault h reads writes = absurd (reads h)
     explains OutputFault h reads writes = absurd (writes h.0)
     explains NoMemory h reads writes = refl
@@ -211,7 +219,7 @@ module _ (with_text : Bool) (source sink : Observed) where
   explained_reported errors stop cause line = record {
     statuses = explain_status stop cause;
     done = λ zero. absurd (never_done stop zero);
-    refused = λ two. let r = refused_of stop two in (r.fault, subst (ExplainStops with_text source sink) r.is cause, subst (λ (s : Stop). IsReported errors (line_of s)) r.is line);
+    refused = λ two. let r = refused_of stop two in unaccepted_as (IsUnexplainedAs source.before) errors r.fault (subst (ExplainStops with_text source sink) r.is cause) (subst (λ (s : Stop). IsReported errors (line_of s)) r.is line);
     input_fault = λ six. subst (ExplainStops with_text source sink) (input_of stop six) cause;
     output_fault = λ seven. subst (ExplainStops with_text source sink) (output_of stop seven) cause;
     complete = explain_complete stop cause;
@@ -296,9 +304,10 @@ module _ (source : Observed) (devices : ObservedDevices) where
   -- a store is made of an accepted text on empty devices
   module _ (text : List ℕ) (accepted : IsAcceptedText text) (is : source.before ≡ Some text) (entry : Devices DiskHistory) (empty : AreEmpty entry) (known : all_known devices.before ≡ Some entry) where
     makes : (stop : Stop) → InitStops source devices stop → IsFaultless devices source → IsOneOf (status_of stop) (0 ∷ 9 ∷ [])
-    makes (ScriptStop fault) h none =
+    makes (ScriptStop (Unaccepted fault)) h none =
         let refused : IsNoStoreText text fault = subst (λ (o : Option (List ℕ)). IsNoStoreFor o fault) is h.1 in
         absurd (refused.none accepted.0 accepted.1)
+    makes (ScriptStop (Line number fault)) h none = absurd h.1
     makes (NotEmpty device length) h none =
         absurd (not_used entry empty device length (all_known devices.after) (subst (λ (all : Option (Devices DiskHistory)). OnceKnown (IsInUse device length) all (all_known devices.after)) known h.2))
     makes InputFault h none = absurd (none.1 h.1)
@@ -325,7 +334,7 @@ module _ (source : Observed) (devices : ObservedDevices) where
     statuses = init_status stop cause;
     accepted = init_accepted stop cause;
     done = λ zero. absurd (never_done stop zero);
-    refused = λ two. let r = refused_of stop two in (r.fault, (subst (InitStops source devices) r.is cause).1, subst (λ (s : Stop). IsReported errors (line_of s)) r.is line);
+    refused = λ two. let r = refused_of stop two in unaccepted_as (IsNoStoreFor source.before) errors r.fault (subst (InitStops source devices) r.is cause).1 (subst (λ (s : Stop). IsReported errors (line_of s)) r.is line);
     not_empty = λ three. let d = full_device stop (device_of stop three) cause in (d.device, d.length, (subst (InitStops source devices) d.is cause).2, subst (λ (s : Stop). IsReported errors (line_of s)) d.is line);
     input_fault = λ six. (subst (InitStops source devices) (input_of stop six) cause).1;
     disk_fault = λ eight. (subst (InitStops source devices) (disk_of stop eight) cause).1;

@@ -12,7 +12,10 @@ use Rattle.pac_recover.specs.Recovering.{AbortsIn, IsPrefixOverLimit, IsOverIn}
 use Rattle.pac_recover.specs.declared.errors.LoadError.TheVariants as load
 use Rattle.pac_recover.specs.declared.errors.RecoverError.TheVariants as recover
 use Rattle.pac_recover.specs.Refusals.{AreRefused, HasDamage, HasNoStore}
+use Rattle.pac_flat.specs.declared.acceptance.AcceptFault.{AcceptFault}
 use Rattle.pac_script.specs.declared.script.Script.{Script}
+use Rattle.pac_script.specs.declared.script_fault.ScriptFault.{ScriptFault}
+use Rattle.pac_script.specs.declared.script_fault.ScriptFault.TheVariants.{Unaccepted, Line}
 use Rattle.pac_run.specs.declared.stop.RunStop.{RunStop}
 use Rattle.pac_run.specs.declared.stop.RunStop.TheVariants as run
 use Rattle.pac_stress.specs.Stressed.{IsSummaryOf}
@@ -69,16 +72,21 @@ StressStops count sink _ = ⊥
 
 -- ---- `explain`
 
+-- a fault of a catalogue's text, with this property
+abbrev pub IsOfCatalogue : (AcceptFault → Type 0) → ScriptFault → Type 0
+IsOfCatalogue P (Unaccepted fault) = P fault
+IsOfCatalogue P (Line number fault) = ⊥
+
 -- an input whose catalogue isn't explained
 abbrev pub GivesNoExplanation : Observed → InputError → Type 0
 GivesNoExplanation source input.Failed = AnyFaulted source
 GivesNoExplanation source input.TooLong = ⊥
-GivesNoExplanation source (input.Script fault) = IsUnexplainedAs source.before fault
+GivesNoExplanation source (input.Script fault) = IsOfCatalogue (IsUnexplainedAs source.before) fault
 GivesNoExplanation source input.NoMemory = Unit {0}
 
 -- the whole command
 abbrev pub ExplainStops : Bool → Observed → Observed → Stop → Type 0
-ExplainStops with_text source sink (stop.Script fault) = IsUnexplainedAs source.before fault
+ExplainStops with_text source sink (stop.Script fault) = IsOfCatalogue (IsUnexplainedAs source.before) fault
 ExplainStops with_text source sink stop.InputFault = AnyFaulted source
 ExplainStops with_text source sink stop.OutputFault = AnyFaulted sink × IsExplanationOf with_text source.before (IsPrefixTaken sink)
 ExplainStops with_text source sink stop.NoMemory = Unit {0}
@@ -90,12 +98,12 @@ ExplainStops with_text source sink _ = ⊥
 abbrev pub GivesNoText : Observed → InputError → Type 0
 GivesNoText source input.Failed = AnyFaulted source
 GivesNoText source input.TooLong = ⊥
-GivesNoText source (input.Script fault) = IsNoStoreFor source.before fault
+GivesNoText source (input.Script fault) = IsOfCatalogue (IsNoStoreFor source.before) fault
 GivesNoText source input.NoMemory = Unit {0}
 
 -- the whole command
 abbrev pub InitStops : Observed → ObservedDevices → Stop → Type 0
-InitStops source devices (stop.Script fault) = AreUntouched devices × IsNoStoreFor source.before fault
+InitStops source devices (stop.Script fault) = AreUntouched devices × IsOfCatalogue (IsNoStoreFor source.before) fault
 InitStops source devices (stop.NotEmpty device length) = IsAcceptedInput source.before × AreUntouched devices × IfAllKnown (IsInUse device length) devices.before devices.after
 InitStops source devices stop.InputFault = AreUntouched devices × AnyFaulted source
 InitStops source devices stop.DiskFault = IsAcceptedInput source.before × OneFaulted devices.faults_before devices.faults_after

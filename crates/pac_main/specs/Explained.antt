@@ -16,13 +16,12 @@ use Rattle.pac_slice.specs.Slices.{AreSlices}
 use Rattle.pac_plan.specs.declared.parts.PlanParts.{PlanParts}
 use Rattle.pac_plan.specs.Analysis.{IsPlan}
 use Rattle.pac_report.specs.Explain.{explain_text}
-use Rattle.pac_script.specs.declared.script_fault.ScriptFault.{ScriptFault}
-use Rattle.pac_script.specs.declared.script_fault.ScriptFault.TheVariants.{Catalogue, TooManyOps, Line}
-use Rattle.pac_script.specs.Script.{IsExcess, IsUnaccepted}
-use Rattle.pac_main.specs.declared.stop.Stop.TheVariants as stop
+use Rattle.pac_flat.specs.Unaccepted.{IsExcess, IsUnaccepted}
+use Rattle.pac_flat.specs.declared.acceptance.AcceptFault.{AcceptFault}
+use Rattle.pac_flat.specs.declared.acceptance.AcceptFault.TheVariants.{Catalogue, TooManyOps}
 use Rattle.pac_main.specs.Inputs.{IsAcceptedText}
 use Rattle.pac_main.specs.Streams.{Observed, AnyFaulted, IsTaken, IsPrefixTaken, IsReported, IsOneOf}
-use Rattle.pac_main.specs.Stop.{line_of}
+use Rattle.pac_main.specs.Stop.{unaccepted_line}
 
 -- ---- what explains a catalogue
 
@@ -66,20 +65,19 @@ IsExplanationOf with_text input P = (written : List ℕ) × IfSome input (λ tex
 -- ---- why a catalogue isn't explained
 
 -- for its first fault of names and types, or for the first procedure at which operations are too many
-abbrev pub IsUnexplainedTree : Tree → ScriptFault → Type 0
+abbrev pub IsUnexplainedTree : Tree → AcceptFault → Type 0
 IsUnexplainedTree tree (Catalogue (Syntax fault)) = ⊥
 IsUnexplainedTree tree (Catalogue (Typing fault)) = IsFirstTypeFault tree fault
 IsUnexplainedTree tree (TooManyOps name count) = (catalogue : CatalogueState) × Types tree catalogue × IsExcess catalogue.procs name count
-IsUnexplainedTree tree (Line number fault) = ⊥
 
 -- the text isn't explained for this cause and for no other, and nothing explains it
-pub record IsTheCause (text : List ℕ) (fault : ScriptFault) : Type 0 where
+pub record IsTheCause (text : List ℕ) (fault : AcceptFault) : Type 0 where
   pub is : IsUnaccepted text fault
-  pub only : (other : ScriptFault) → IsUnaccepted text other → other ≡ fault
+  pub only : (other : AcceptFault) → IsUnaccepted text other → other ≡ fault
   pub none : (with_text : Bool) (written : List ℕ) → IsExplanation with_text text written → ⊥
 
 -- the input isn't explained for this cause, where the source's bytes are known
-abbrev pub IsUnexplainedAs : Option (List ℕ) → ScriptFault → Type 0
+abbrev pub IsUnexplainedAs : Option (List ℕ) → AcceptFault → Type 0
 IsUnexplainedAs input fault = IfSome input (λ text. IsTheCause text fault)
 
 -- ---- the statuses
@@ -88,7 +86,7 @@ IsUnexplainedAs input fault = IfSome input (λ text. IsTheCause text fault)
 pub record ExplainEnds (with_text : Bool) (status : ℕ) (input output errors : Observed) : Type 0 where
   pub statuses : IsOneOf status (0 ∷ 2 ∷ 6 ∷ 7 ∷ 9 ∷ [])
   pub done : status ≡ 0 → IsExplanationOf with_text input.before (IsTaken output)
-  pub refused : status ≡ 2 → (fault : ScriptFault) × IsUnexplainedAs input.before fault × IsReported errors (line_of (stop.Script fault))
+  pub refused : status ≡ 2 → (fault : AcceptFault) × IsUnexplainedAs input.before fault × IsReported errors (unaccepted_line fault)
   pub input_fault : status ≡ 6 → AnyFaulted input
   pub output_fault : status ≡ 7 → AnyFaulted output × IsExplanationOf with_text input.before (IsPrefixTaken output)
   -- an accepted text is explained, where no fault was counted, or there was no memory

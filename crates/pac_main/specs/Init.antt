@@ -5,12 +5,11 @@ use Rattle.pac_types.specs.Typing.{CatalogueState}
 use Rattle.pac_types.specs.Accepted.{IsAccepted}
 use Rattle.pac_store.specs.Made.{AreEmpty, IsInUse, MakesStore}
 use Rattle.pac_store.specs.declared.device.DeviceName.{DeviceName}
-use Rattle.pac_script.specs.declared.script_fault.ScriptFault.{ScriptFault}
-use Rattle.pac_main.specs.declared.stop.Stop.TheVariants as stop
-use Rattle.pac_script.specs.Script.{IsUnaccepted}
+use Rattle.pac_flat.specs.declared.acceptance.AcceptFault.{AcceptFault}
+use Rattle.pac_flat.specs.Unaccepted.{IsUnaccepted}
 use Rattle.pac_main.specs.Inputs.{IsAcceptedText}
 use Rattle.pac_main.specs.Streams.{Observed, ObservedDevices, AnyFaulted, IsFaultless, IsReported, IsOneOf}
-use Rattle.pac_main.specs.Stop.{line_of, not_empty_line}
+use Rattle.pac_main.specs.Stop.{not_empty_line, unaccepted_line}
 
 -- a store can be made of the text, and the input is this text where the source's bytes are known
 abbrev pub IsStoreText : List ℕ → Option (List ℕ) → Type 0
@@ -21,13 +20,13 @@ abbrev pub IsAcceptedInput : Option (List ℕ) → Type 0
 IsAcceptedInput input = (text : List ℕ) × IsStoreText text input
 
 -- no store can be made of the text, for this cause and for no other
-pub record IsNoStoreText (text : List ℕ) (fault : ScriptFault) : Type 0 where
+pub record IsNoStoreText (text : List ℕ) (fault : AcceptFault) : Type 0 where
   pub is : IsUnaccepted text fault
-  pub only : (other : ScriptFault) → IsUnaccepted text other → other ≡ fault
+  pub only : (other : AcceptFault) → IsUnaccepted text other → other ≡ fault
   pub none : (catalogue : CatalogueState) → IsAccepted text catalogue → ⊥
 
 -- none can be made of the input, for this cause, where the source's bytes are known
-abbrev pub IsNoStoreFor : Option (List ℕ) → ScriptFault → Type 0
+abbrev pub IsNoStoreFor : Option (List ℕ) → AcceptFault → Type 0
 IsNoStoreFor input fault = IfSome input (λ text. IsNoStoreText text fault)
 
 -- the input was such a text, and the devices have its store
@@ -45,7 +44,7 @@ pub record InitEnds (status : ℕ) (input errors : Observed) (devices : Observed
   -- a store can be made of the input, unless the status says otherwise
   pub accepted : IsOneOf status (0 ∷ 3 ∷ 8 ∷ []) → IsAcceptedInput input.before
   pub done : status ≡ 0 → IsStoreOf input.before devices
-  pub refused : status ≡ 2 → (fault : ScriptFault) × IsNoStoreFor input.before fault × IsReported errors (line_of (stop.Script fault))
+  pub refused : status ≡ 2 → (fault : AcceptFault) × IsNoStoreFor input.before fault × IsReported errors (unaccepted_line fault)
   pub not_empty : status ≡ 3 → (device : DeviceName) × (length : ℕ) × IfAllKnown (IsInUse device length) devices.before devices.after × IsReported errors (not_empty_line device length)
   pub input_fault : status ≡ 6 → AnyFaulted input
   pub disk_fault : status ≡ 8 → OneFaulted devices.faults_before devices.faults_after

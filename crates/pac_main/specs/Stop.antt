@@ -7,8 +7,10 @@ use Rattle.pac_ops.specs.Reasons.{reason_name}
 use Rattle.pac_serial.specs.declared.serial.AllError.{AllError}
 use Rattle.pac_serial.specs.declared.serial.AllError.TheVariants as serial
 use Rattle.pac_request.specs.declared.fault.LineFault.{LineFault}
+use Rattle.pac_flat.specs.declared.acceptance.AcceptFault.{AcceptFault}
+use Rattle.pac_flat.specs.declared.acceptance.AcceptFault.TheVariants.{Catalogue, TooManyOps}
 use Rattle.pac_script.specs.declared.script_fault.ScriptFault.{ScriptFault}
-use Rattle.pac_script.specs.declared.script_fault.ScriptFault.TheVariants.{Catalogue, TooManyOps, Line}
+use Rattle.pac_script.specs.declared.script_fault.ScriptFault.TheVariants.{Unaccepted, Line}
 use Rattle.pac_request.specs.LineKinds.{line_kind_name}
 use Rattle.pac_store.specs.Made.{device_name}
 use Rattle.pac_store.specs.declared.device.DeviceName.{DeviceName}
@@ -110,10 +112,14 @@ takes_memory (LogFull need) = true
 takes_memory (TooLarge bytes) = true
 takes_memory _ = false
 
--- the first fault of the catalogue that is refused, too many operations, or the first line that is refused
+-- the first fault of the catalogue that is refused, or too many operations
+abbrev pub unaccepted_line : AcceptFault → List ℕ
+unaccepted_line (Catalogue fault) = catalogue_line fault
+unaccepted_line (TooManyOps name count) = operations_line name count
+
+-- why the catalogue isn't accepted, or the first line that is refused
 abbrev pub script_fault_line : ScriptFault → List ℕ
-script_fault_line (Catalogue fault) = catalogue_line fault
-script_fault_line (TooManyOps name count) = operations_line name count
+script_fault_line (Unaccepted fault) = unaccepted_line fault
 script_fault_line (Line number fault) = script_line number fault
 
 -- the line that is reported for a stop

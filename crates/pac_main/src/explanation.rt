@@ -10,18 +10,16 @@ ghost use Rattle.pac_syntax.specs.Reading.{IsTree};
 ghost use Rattle.pac_types.specs.Fits.{shape};
 ghost use Rattle.pac_types.specs.OperationLimits.{HasFewOperations};
 ghost use Rattle.pac_main.specs.Explained.{AreSlicesOf, IsExplanation, IsGraphText, IsTreeExplanation, IsUnexplainedTree};
-ghost use Rattle.pac_script.specs.Script.{IsUnaccepted};
-ghost use Rattle.pac_script.specs.ScriptReading.{IsExcessFault};
-ghost use Rattle.pac_script.specs.declared.script_fault.ScriptFault.{ScriptFault as AFault};
+ghost use Rattle.pac_flat.specs.Unaccepted.{IsExcessFault, IsUnaccepted};
+ghost use Rattle.pac_flat.specs.declared.acceptance.AcceptFault.{AcceptFault as AFault};
 
 use pac_base::{NoMemory, Refusal};
-use pac_flat::flatten;
+use pac_flat::{AcceptError, AcceptFault, excess_fault, flatten};
 use pac_global::global;
 use pac_ops::Program;
 use pac_plan::is_plan;
 use pac_print::print;
 use pac_report::explain_text;
-use pac_script::{ScriptError, ScriptFault, excess_fault};
 use pac_slice::{LocalGraph, slices};
 use pac_syntax::{Tree, parse_catalogue};
 use pac_types::{Catalogue, CatalogueFault, check};
@@ -31,14 +29,14 @@ use std::alloc::Global;
 ///
 /// # Errors
 ///
-/// `Fault` where the text has no catalogue, or one with too many operations; it is never `Line`.
-pub fn explain(alloc: Global, with_text: bool, text: &[u8]) -> Result<Vec<u8>, ScriptError>
+/// `Fault` where the text has no catalogue, or one with too many operations.
+pub fn explain(alloc: Global, with_text: bool, text: &[u8]) -> Result<Vec<u8>, AcceptError>
     ensures ok { IfOk result (λ written. IsExplanation with_text text.now written.items) }
     ensures fault { (fault : AFault) → IsErrOf result (error.Fault fault) → IsUnaccepted text.now fault }
 {
     match parse_catalogue(alloc, text) {
         Ok(tree) => explain_tree(alloc, with_text, tree),
-        Err(Refusal::Fault(fault)) => Err(Refusal::Fault(ScriptFault::Catalogue(
+        Err(Refusal::Fault(fault)) => Err(Refusal::Fault(AcceptFault::Catalogue(
             CatalogueFault::Syntax(fault),
         ))),
         Err(Refusal::NoMemory) => Err(Refusal::NoMemory),
@@ -46,7 +44,7 @@ pub fn explain(alloc: Global, with_text: bool, text: &[u8]) -> Result<Vec<u8>, S
 }
 
 // The same for a tree.
-fn explain_tree(alloc: Global, with_text: bool, tree: Tree) -> Result<Vec<u8>, ScriptError>
+fn explain_tree(alloc: Global, with_text: bool, tree: Tree) -> Result<Vec<u8>, AcceptError>
     requires { IsTree tree }
     ensures ok { IfOk result (λ written. IsTreeExplanation with_text tree written.items) }
     ensures fault { (fault : AFault) → IsErrOf result (error.Fault fault) → IsUnexplainedTree tree fault }
@@ -58,7 +56,7 @@ fn explain_tree(alloc: Global, with_text: bool, tree: Tree) -> Result<Vec<u8>, S
             out.extend_from_slice(&graph)?;
             Ok(out)
         }
-        Err(Refusal::Fault(fault)) => Err(Refusal::Fault(ScriptFault::Catalogue(
+        Err(Refusal::Fault(fault)) => Err(Refusal::Fault(AcceptFault::Catalogue(
             CatalogueFault::Typing(fault),
         ))),
         Err(Refusal::NoMemory) => Err(Refusal::NoMemory),
@@ -77,7 +75,7 @@ fn leading_text(alloc: Global, with_text: bool, tree: &Tree) -> Result<Vec<u8>, 
 }
 
 // The text of the graph, where operations are few enough for one.
-fn graph_text(alloc: Global, catalogue: &Catalogue) -> Result<Vec<u8>, ScriptError>
+fn graph_text(alloc: Global, catalogue: &Catalogue) -> Result<Vec<u8>, AcceptError>
     ensures ok { IfOk result (λ text. IsGraphText catalogue.now text.items) }
     ensures fault { (fault : AFault) → IsErrOf result (error.Fault fault) → IsExcessFault catalogue.now fault }
 {

@@ -17,8 +17,8 @@ use crate::reporting::{ArgumentsError, refuse_arguments, report};
 use crate::stop::Stop;
 use pac_arguments::{Command, parse_args};
 use pac_base::NoMemory;
+use pac_flat::accepted;
 use pac_outside::{Devices, Disk, Sink, Source, read_up_to};
-use pac_script::read_accepted;
 use pac_store::make_store;
 use pac_syntax::MAX_CATALOGUE;
 use std::alloc::Global;
@@ -31,7 +31,7 @@ fn read_text<I: Source>(alloc: Global, input: &mut I) -> Result<Vec<u8>, InputEr
     ensures taken { GaveAtMost (MAX_CATALOGUE + 1) (I.left input.old) (I.left input.new) }
 {
     let text = read_up_to(alloc, input, MAX_CATALOGUE)?;
-    read_accepted(alloc, &text)?;
+    accepted(alloc, &text)?;
     Ok(text)
 }
 

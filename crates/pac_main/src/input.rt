@@ -1,8 +1,9 @@
 // Why a command gets nothing from its input.
 ghost use Rattle.std.specs.Prelude.{◌≡◌};
-ghost use Rattle.pac_main.specs.Inputs.{input_of_read, input_of_script};
+ghost use Rattle.pac_main.specs.Inputs.{input_of_accept, input_of_read, input_of_script};
 
 use pac_base::Refusal;
+use pac_flat::AcceptError;
 use pac_outside::ReadError;
 use pac_script::{ScriptError, ScriptFault};
 use thiserror::Error;
@@ -16,7 +17,7 @@ pub(crate) enum InputError {
     /// It has more than 67,108,864 bytes, where a script is wanted.
     #[error("the input is too long")]
     TooLong,
-    /// What was read is no script, or has no catalogue that is explained.
+    /// What was read is no script, or isn't accepted as a catalogue where that alone is wanted.
     #[error("{0}")]
     Script(ScriptFault),
     /// An allocation was refused.
@@ -31,6 +32,17 @@ impl From<ReadError> for InputError {
         match error {
             ReadError::Failed => InputError::Failed,
             ReadError::NoMemory => InputError::NoMemory,
+        }
+    }
+}
+
+impl From<AcceptError> for InputError {
+    ghost from_gives = { λ error input. input ≡ input_of_accept error };
+
+    fn from(error: AcceptError) -> Self {
+        match error {
+            Refusal::Fault(fault) => InputError::Script(ScriptFault::Unaccepted(fault)),
+            Refusal::NoMemory => InputError::NoMemory,
         }
     }
 }

@@ -1,14 +1,32 @@
 // The line that reports a stop.
 ghost use Rattle.std.specs.Prelude.{◌≡◌, IsTrue};
 ghost use Rattle.pac_report.specs.Status.{fault_text, is_made};
-ghost use Rattle.pac_main.specs.Stop.{damaged_line, line_of, script_fault_line, slot_device, takes_memory};
+ghost use Rattle.pac_main.specs.Stop.{damaged_line, line_of, script_fault_line, slot_device, takes_memory, unaccepted_line};
 
 use crate::stop::Stop;
 use pac_check::SlotName;
+use pac_flat::AcceptFault;
 use pac_recover::Damage;
 use pac_report::StatusLine;
 use pac_script::ScriptFault;
 use pac_store::DeviceName;
+
+// The line of a text that isn't accepted as a catalogue.
+fn unaccepted_status(fault: &AcceptFault) -> StatusLine<'_>
+    ensures line { fault_text result ≡ unaccepted_line fault.now }
+    ensures made { IsTrue (is_made result) }
+{
+    match fault {
+        AcceptFault::Catalogue(fault) => StatusLine::Catalogue {
+            at: fault.at() as u64,
+            kind: fault.kind_name(),
+        },
+        AcceptFault::TooManyOps { proc, count } => StatusLine::Operations {
+            proc: proc.bytes(),
+            count: *count,
+        },
+    }
+}
 
 // The line of a refused script.
 fn script_status(fault: &ScriptFault) -> StatusLine<'_>
@@ -16,14 +34,7 @@ fn script_status(fault: &ScriptFault) -> StatusLine<'_>
     ensures made { IsTrue (is_made result) }
 {
     match fault {
-        ScriptFault::Catalogue(fault) => StatusLine::Catalogue {
-            at: fault.at() as u64,
-            kind: fault.kind_name(),
-        },
-        ScriptFault::TooManyOps { proc, count } => StatusLine::Operations {
-            proc: proc.bytes(),
-            count: *count,
-        },
+        ScriptFault::Unaccepted(fault) => unaccepted_status(fault),
         ScriptFault::Line { line, fault } => StatusLine::Script {
             line: *line as u64,
             at: fault.at as u64,

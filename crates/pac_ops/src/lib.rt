@@ -9,6 +9,7 @@
 //! - [`PieceId`]: what one transaction does in one block. [`Numbers`], [`Pairs`]: numbers of operations, slices or
 //!   blocks.
 //! - [`Reason`]: why a transaction aborts. [`Note`]: which operation of which transaction aborts, and why.
+//! - [`Gate`]: what a worker passes before each piece; [`OpenGate`] never blocks.
 //! - [`all_hold`], [`key_of`]: what an operation finds before it does anything.
 //! - [`TableTypes`]: the types of a table's rows. `specs/Shapes.antt` says which rows and records fit such tables.
 //!
@@ -35,6 +36,7 @@
 
 mod batch;
 mod evaluate;
+mod gate;
 mod laws;
 mod limits;
 mod note;
@@ -48,6 +50,7 @@ mod uses;
 
 pub use batch::{Batch, Batches, Txns, TxnsRule};
 pub use evaluate::{all_hold, key_of};
+pub use gate::{Gate, OpenGate};
 pub use laws::{numbered_operations, one_operation, stays_fit};
 pub use limits::{MAX_ALL_OPS, MAX_OPS, MAX_RECORDS, MAX_TXNS};
 pub use note::Note;

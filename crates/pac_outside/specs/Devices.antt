@@ -3,6 +3,8 @@ use Rattle.std.specs.Prelude.{◌≡◌, ◌⊎◌, ℕ, List, Option, Some, Non
 use Rattle.pac_outside.specs.Causes.{one_more}
 use Rattle.pac_outside.specs.Disk.{DiskHistory, DiskState, IsImage, becomes, settled}
 use Rattle.pac_outside.specs.declared.devices.Devices.{Devices}
+use Rattle.pac_outside.specs.declared.devices.LogName.{LogName}
+use Rattle.pac_outside.specs.declared.devices.LogName.TheVariants.{Log, LogB}
 
 -- what is seen of each device of a store
 abbrev pub each : {D A : Type 0} → (D → A) → Devices D → Devices A
@@ -31,6 +33,11 @@ abbrev pub with_device : {D : Type 0} → WhichDevice → D → Devices D → De
 with_device the_log device devices = record { log = device; slot_a = devices.slot_a; slot_b = devices.slot_b }
 with_device the_slot_a device devices = record { log = devices.log; slot_a = device; slot_b = devices.slot_b }
 with_device the_slot_b device devices = record { log = devices.log; slot_a = devices.slot_a; slot_b = device }
+
+-- the other one of the two log devices
+abbrev pub other_log : LogName → LogName
+other_log Log = LogB
+other_log LogB = Log
 
 -- what is known of three devices, where all of it is
 abbrev pub all_three : Option DiskHistory → Option DiskHistory → Option DiskHistory → Option (Devices DiskHistory)

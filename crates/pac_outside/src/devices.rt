@@ -3,6 +3,27 @@ ghost use Rattle.std.specs.Prelude.{◌≡◌, OnOk, option_map};
 
 use crate::{Disk, Failed};
 
+/// One of the two log devices of a store.
+#[derive(Clone, Copy, Debug, PartialEq, Eq)]
+pub enum LogName {
+    Log,
+    LogB,
+}
+
+impl LogName {
+    ghost use Rattle.pac_outside.specs.Devices.{other_log};
+
+    /// The other one.
+    pub fn other(&self) -> LogName
+        ensures { result ≡ other_log self.now }
+    {
+        match self {
+            LogName::Log => LogName::LogB,
+            LogName::LogB => LogName::Log,
+        }
+    }
+}
+
 /// The devices of a store: the log, and two slots for checkpoints.
 #[derive(Drop)]
 pub struct Devices<D> {

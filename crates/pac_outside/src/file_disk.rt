@@ -2,7 +2,7 @@
 ghost use Rattle.std.specs.Prelude.{◌≡◌, ◌≤◌, IfOk, None, length};
 
 use crate::faults::Faults;
-use crate::{Disk, Failed, FileCalls, FileSystem, OpenMode, PathKind};
+use crate::{Disk, Failed, FileCalls, FileId, FileSystem, OpenMode, PathKind};
 use std::io;
 use std::os::unix::fs::FileExt;
 use std::path::Path;
@@ -11,11 +11,15 @@ use std::path::Path;
 /// trusted.
 ///
 /// Until the first write or sync the file is opened for reading alone. A missing one reads as an empty disk; a write makes
-/// it, and a sync leaves it missing. A folder, a link, a pipe and a device are refused: each call fails.
+/// it, and a sync leaves it missing. A folder, a link, a pipe and a device are refused: each call fails. That is asked of the
+/// path, and once more of what was opened, since another may have put something else there meanwhile.
 ///
 /// At the first write or sync the file is locked until the disk is dropped. The call fails where another disk has it
-/// locked, in this process or another, and where its length isn't the one that was answered last. Then its folder is synced,
-/// so that the file itself outlasts a crash.
+/// locked, in this process or another, where it isn't the file that was read before, and where its length isn't the one that
+/// was answered last. Then its folder is synced, so that the file itself outlasts a crash.
+///
+/// A sync fails where the file was removed, or another stands at its path: what is written then is lost for whoever opens
+/// the path later. It asks the system once for that.
 #[derive(Drop)]
 pub struct FileDisk<'a, S: FileSystem> {
     file: OneFile<'a, S>,
@@ -74,7 +78,7 @@ impl<'a, S: FileSystem> Disk for FileDisk<'a, S> {
 struct OneFile<'a, S: FileSystem> {
     system: &'a S,
     path: &'a str,
-    opened: Option<S::File>,
+    opened: Option<Opened<S::File>>,
     is_writable: bool,
     // A sync failed.
     is_doubtful: bool,
@@ -82,11 +86,18 @@ struct OneFile<'a, S: FileSystem> {
     answered: Option<u64>,
 }
 
+// A plain file that is open.
+#[derive(Drop)]
+struct Opened<F> {
+    file: F,
+    id: FileId,
+}
+
 impl<'a, S: FileSystem> OneFile<'a, S> {
     fn len(&mut self) -> io::Result<u64> {
         self.open_to_read()?;
         let len = match &self.opened {
-            Some(file) => file.len()?,
+            Some(opened) => opened.file.len()?,
             None => 0,
         };
         self.answered = Some(len);
@@ -98,8 +109,8 @@ impl<'a, S: FileSystem> OneFile<'a, S> {
     {
         let rest = self.len()?.saturating_sub(at);
         let count = rest.min(buf.len() as u64) as usize;
-        if let Some(file) = &self.opened {
-            file.read_exact_at(&mut buf[..count], at)?;
+        if let Some(opened) = &self.opened {
+            opened.file.read_exact_at(&mut buf[..count], at)?;
         }
         Ok(count)
     }
@@ -107,7 +118,7 @@ impl<'a, S: FileSystem> OneFile<'a, S> {
     fn write(&mut self, at: u64, piece: &[u8]) -> io::Result<()> {
         self.open_to_write(OpenMode::Make)?;
         match &self.opened {
-            Some(file) => file.write_all_at(piece, at),
+            Some(opened) => opened.file.write_all_at(piece, at),
             None => Err(io::ErrorKind::NotFound.into()),
         }
     }
@@ -115,17 +126,21 @@ impl<'a, S: FileSystem> OneFile<'a, S> {
     // Nothing was written to a file that is missing.
     fn sync(&mut self) -> io::Result<()> {
         self.open_to_write(OpenMode::Write)?;
-        let Some(file) = &self.opened else {
+        let Some(opened) = &self.opened else {
             return Ok(());
         };
-        unless_doubtful(&mut self.is_doubtful, file.sync_data())
+        unless_doubtful(&mut self.is_doubtful, opened.file.sync_data())?;
+        match self.system.kind(self.path)? {
+            PathKind::Plain(id) if id == opened.id => Ok(()),
+            _ => Err(io::Error::other("the file was removed or exchanged")),
+        }
     }
 
     fn open_to_read(&mut self) -> io::Result<()> {
         if self.opened.is_none() {
             match self.system.kind(self.path)? {
                 PathKind::Missing => {}
-                PathKind::Plain => self.opened = Some(self.system.open(self.path, OpenMode::Read)?),
+                PathKind::Plain(_) => self.opened = Some(self.open_plain(OpenMode::Read)?),
                 PathKind::Other => return Err(not_plain()),
             }
         }
@@ -138,26 +153,43 @@ impl<'a, S: FileSystem> OneFile<'a, S> {
             return Ok(());
         }
         let mode = match self.system.kind(self.path)? {
-            PathKind::Plain => OpenMode::Write,
+            PathKind::Plain(_) => OpenMode::Write,
             PathKind::Missing if missing == OpenMode::Make => OpenMode::Make,
             PathKind::Missing if self.opened.is_none() => return Ok(()),
             PathKind::Missing | PathKind::Other => return Err(not_plain()),
         };
-        let file = self.system.open(self.path, mode)?;
-        file.try_lock()?;
-        self.test_length(&file)?;
+        let opened = self.open_plain(mode)?;
+        opened.file.try_lock()?;
+        self.test_same(&opened)?;
         self.sync_folder()?;
-        self.opened = Some(file);
+        self.opened = Some(opened);
         self.is_writable = true;
         Ok(())
     }
 
-    // Another may have written the file before it was locked.
-    fn test_length(&self, file: &S::File) -> io::Result<()> {
-        match self.answered {
-            Some(len) if file.len()? != len => Err(io::Error::other("another wrote the file")),
-            _ => Ok(()),
+    // What stands at the path may have become another since it was asked for its kind, so what was opened is asked too.
+    fn open_plain(&self, mode: OpenMode) -> io::Result<Opened<S::File>> {
+        let file = self.system.open(self.path, mode)?;
+        match file.kind()? {
+            PathKind::Plain(id) => Ok(Opened { file, id }),
+            PathKind::Missing | PathKind::Other => Err(not_plain()),
         }
+    }
+
+    // Another may have exchanged the file since it was read, or written it before it was locked.
+    fn test_same(&self, opened: &Opened<S::File>) -> io::Result<()> {
+        let is_exchanged = match &self.opened {
+            Some(before) => before.id != opened.id,
+            None => false,
+        };
+        let is_written = match self.answered {
+            Some(len) => opened.file.len()? != len,
+            None => false,
+        };
+        if is_exchanged || is_written {
+            return Err(io::Error::other("another exchanged or wrote the file"));
+        }
+        Ok(())
     }
 
     // The folder is synced also where the file is there already: whoever made it may have been stopped before.

@@ -1,16 +1,23 @@
 // The calls of the system that a disk over a file makes.
-use std::fs::{self, File, Files, OpenOptions};
+use std::fs::{self, File, Files, Metadata, OpenOptions};
 use std::io;
 use std::os::fd::AsRawFd;
-use std::os::unix::fs::FileExt;
+use std::os::unix::fs::{FileExt, MetadataExt};
 
-/// What stands at a path.
+/// A file as the system tells it from all others that there are: where it stands, and its number there.
+#[derive(Clone, Copy, Debug, PartialEq, Eq)]
+pub struct FileId {
+    pub device: u64,
+    pub number: u64,
+}
+
+/// What stands at a path, or was opened.
 #[derive(Clone, Copy, Debug, PartialEq, Eq)]
 pub enum PathKind {
     /// Nothing.
     Missing,
     /// A file of bytes.
-    Plain,
+    Plain(FileId),
     /// A folder, a link, a pipe or a device.
     Other,
 }
@@ -39,6 +46,9 @@ pub trait FileSystem {
 
 /// The calls on an open file. Those of [`FileExt`] read and write at an offset, and may stop short.
 pub trait FileCalls: FileExt {
+    /// What was opened, whatever stands at its path by now.
+    fn kind(&self) -> io::Result<PathKind>;
+
     /// How many bytes the file has.
     fn len(&self) -> io::Result<u64>;
 
@@ -57,8 +67,7 @@ impl<R: Files<File = File>> FileSystem for R {
 
     fn kind(&self, path: &str) -> io::Result<PathKind> {
         match fs::symlink_metadata(self, path) {
-            Ok(found) if found.is_file() => Ok(PathKind::Plain),
-            Ok(_) => Ok(PathKind::Other),
+            Ok(found) => Ok(kind_of(&found)),
             Err(error) if error.kind() == io::ErrorKind::NotFound => Ok(PathKind::Missing),
             Err(error) => Err(error),
         }
@@ -75,6 +84,10 @@ impl<R: Files<File = File>> FileSystem for R {
 }
 
 impl FileCalls for File {
+    fn kind(&self) -> io::Result<PathKind> {
+        Ok(kind_of(&self.metadata()?))
+    }
+
     fn len(&self) -> io::Result<u64> {
         Ok(self.metadata()?.len())
     }
@@ -90,6 +103,17 @@ impl FileCalls for File {
     fn try_lock(&self) -> io::Result<()> {
         File::try_lock(self)?;
         Ok(())
+    }
+}
+
+fn kind_of(found: &Metadata) -> PathKind {
+    if found.is_file() {
+        PathKind::Plain(FileId {
+            device: found.dev(),
+            number: found.ino(),
+        })
+    } else {
+        PathKind::Other
     }
 }
 

@@ -4,7 +4,8 @@
 //! - [`Source`] gives bytes, [`Sink`] takes bytes. [`read_up_to`] reads a whole input, [`write_all`] writes a whole
 //!   text.
 //! - [`Disk`] is a device of bytes that survive a crash once they are synced; `specs/Disk.antt` says what a crash may
-//!   leave at each moment. [`Devices`] are the three of a store; [`Devices::sync`] syncs them.
+//!   leave at each moment. [`Devices`] are the three of a store; [`Devices::sync`] syncs them. [`LogName`]
+//!   names the two on which segments of a log may stand.
 //! - [`write_and_sync`] returns once a piece is synced. [`open_after`] writes a piece after a closed gate byte and
 //!   opens it: the argument that a crash leaves all of the piece or none stands there, once. [`read_piece`] and
 //!   [`read_more`] read.
@@ -13,7 +14,8 @@
 //! - [`Stream`] is an adapter over a reader or a writer of std, [`FileDisk`] over a file, [`NoDisk`] is no device: each
 //!   of its calls fails. [`store_devices`] are the three files of a store.
 //! - [`FileSystem`] is what a [`FileDisk`] asks of the system: the runtime is one, and a test puts another in its place.
-//! - [`Gate`] is passed by a worker before each piece of work; [`OpenGate`] never blocks.
+//! - [`Gate`] is passed by a worker before each piece of work; [`OpenGate`] never blocks. Both stand in `pac_ops`, since
+//!   workers know no device.
 //!
 //! ```
 //! use pac_outside::{Fill, MemDisk, open_after};
@@ -40,7 +42,6 @@ mod failed;
 mod faults;
 mod file_disk;
 mod file_system;
-mod gate;
 mod gate_byte;
 mod laws;
 mod mem_disk;
@@ -53,12 +54,11 @@ mod whole;
 
 pub use bytes::{Sink, Source};
 pub use device::{Disk, NoDisk};
-pub use devices::Devices;
+pub use devices::{Devices, LogName};
 pub use durable::{open_after, write_and_sync};
 pub use failed::{Failed, ReadError};
 pub use file_disk::FileDisk;
-pub use file_system::{FileCalls, FileSystem, OpenMode, PathKind};
-pub use gate::{Gate, OpenGate};
+pub use file_system::{FileCalls, FileId, FileSystem, OpenMode, PathKind};
 pub use gate_byte::{GATE_OPEN, GATE_SHUT};
 pub use laws::{
     a_moment_is_allowed, a_state_between_counts, each_state_is_passed, one_device_runs,
@@ -66,6 +66,7 @@ pub use laws::{
 pub use mem_disk::MemDisk;
 pub use memory::{MemSink, MemSource};
 pub use moment::Fill;
+pub use pac_ops::{Gate, OpenGate};
 pub use piece::{read_more, read_piece};
 pub use store_files::store_devices;
 pub use streams::Stream;

@@ -10,14 +10,14 @@ use Rattle.pac_outside.specs.Disk.{DiskHistory, IfKnown}
 use Rattle.pac_outside.specs.Parts.{reads_of}
 use Rattle.pac_outside.specs.declared.devices.Devices.{Devices}
 use Rattle.pac_types.specs.Typing.{CatalogueState}
+use Rattle.pac_log.specs.declared.header.HeaderForm.TheVariants.{First}
 use Rattle.pac_log.specs.declared.damage.DamageKind.{DamageKind}
 use Rattle.pac_log.specs.declared.errors.LogError.{LogError}
 use Rattle.pac_log.specs.declared.errors.LogError.TheVariants as log_error
 use Rattle.pac_log.specs.declared.position.NextGate.{NextGate}
-use Rattle.pac_log.specs.Logs.{HoldsLog, all_txns}
+use Rattle.pac_log.specs.Logs.{HoldsLog, all_txns, header_with}
 use Rattle.pac_log.specs.Reading.{IsStore, StandsAfter}
 use Rattle.pac_check.specs.declared.damage.SlotDamageKind.{SlotDamageKind}
-use Rattle.pac_check.specs.declared.damage.SlotDamageKind.TheVariants.{Place}
 use Rattle.pac_check.specs.declared.info.SlotInfo.{SlotInfo}
 use Rattle.pac_check.specs.declared.info.SlotName.{SlotName}
 use Rattle.pac_check.specs.declared.info.SlotName.TheVariants.{A, B}
@@ -39,7 +39,7 @@ use Rattle.pac_recover.specs.Damages.{IsAmongGates, IsBrokenSlot, IsDamagedSlot,
 use Rattle.pac_recover.specs.Ends.{EndedSo, EndsBeside, EndsSo, IsDamagedBeside, IsWholeLog}
 use Rattle.pac_recover.specs.Gates.{txns_by_batch}
 use Rattle.pac_recover.specs.Limits.{IsFirstOver}
-use Rattle.pac_recover.specs.Loading.{AreNewestOf, IsInfoAmong}
+use Rattle.pac_recover.specs.Loading.{AreNewestOf, IsInfoAmong, IsMisplacedInfo}
 use Rattle.pac_recover.specs.Logs.{HoldsLogUpTo, ReadsTo}
 use Rattle.pac_recover.specs.Outcomes.{outcome_of}
 use Rattle.pac_recover.specs.Refusals.{AreRefused}
@@ -82,45 +82,45 @@ module _ {T : Type 0} (text : List ℕ) (catalogue : CatalogueState) (slots : Sl
       }
 
   pub ends-beside : (ended : Ended T) → ended.catalogue ≡ catalogue → ended.replayed ≡ replayed → ended.reader.gate.txns ≡ new.txns → IsInfoAmong gates (info_of A slots.a) → IsInfoAmong gates (info_of B slots.b)
-      → (first : NextGate) (a b : List ℕ) (known : Option DiskHistory) → IfKnown (λ h. StandsAfter text [] first h.now.seen → IsReplay h.now.seen) known
-      → IfKnown (λ h. StandsAfter text [] first h.now.seen → EndsBeside catalogue slots base ended h.now.seen a b) known
+      → (first : NextGate) (a b : List ℕ) (known : Option DiskHistory) → IfKnown (λ h. StandsAfter (header_with First text) [] first h.now.seen → IsReplay h.now.seen) known
+      → IfKnown (λ h. StandsAfter (header_with First text) [] first h.now.seen → EndsBeside catalogue slots base ended h.now.seen a b) known
   ends-beside ended same gives counted at_a at_b first a b None is = tt
   ends-beside ended same gives counted at_a at_b first a b (Some h) is = λ stands. ends-here ended same gives counted at_a at_b h.now.seen a b (is stands)
 
   -- the reader is at its end
-  pub replay-log : (first : NextGate) (known : Option DiskHistory) → new.catalogue ≡ catalogue → IfKnown (λ h. StandsAfter text [] first h.now.seen → IsReplay h.now.seen) known
-      → IfKnown (λ h. StandsAfter text [] first h.now.seen → HoldsLogUpTo new h.now.seen) known
+  pub replay-log : (first : NextGate) (known : Option DiskHistory) → new.catalogue ≡ catalogue → IfKnown (λ h. StandsAfter (header_with First text) [] first h.now.seen → IsReplay h.now.seen) known
+      → IfKnown (λ h. StandsAfter (header_with First text) [] first h.now.seen → HoldsLogUpTo new h.now.seen) known
   replay-log first None same is = tt
   replay-log first (Some h) same is = λ stands.
       let r = is stands in
-      record { text = text; batches = r.batches; log = subst (λ (c : CatalogueState). HoldsLog text c r.batches h.now.seen) (sym same) r.log; end = r.end }
+      record { text = text; batches = r.batches; log = subst (λ (c : CatalogueState). HoldsLog (header_with First text) c r.batches h.now.seen) (sym same) r.log; end = r.end }
 
   -- where one is not
-  pub misplaced-beside : (name : SlotName) (info : Option SlotInfo) (found : SlotInfo) → info ≡ info_of name (by_slot name slots.a slots.b) → info ≡ Some found → (IsInfoAmong gates info → ⊥) → (name ≡ B → IsInfoAmong gates (info_of A slots.a))
-      → (error : LoadError) → error ≡ load.Damaged (Slot found.slot 9 Place) → (slot : SlotName) (at : ℕ) (kind : SlotDamageKind) → error ≡ load.Damaged (Slot slot at kind)
-      → (first : NextGate) (a b : List ℕ) (known : Option DiskHistory) → IfKnown (λ h. StandsAfter text [] first h.now.seen → IsReplay h.now.seen) known
-      → IfKnown (λ h. StandsAfter text [] first h.now.seen → IsDamagedBeside catalogue slots slot at kind h.now.seen a b) known
-  misplaced-beside name info found is there misfit prefix error made slot at kind said first a b None replay = tt
-  misplaced-beside name info found is there misfit prefix error made slot at kind said first a b (Some h) replay = λ stands is_a is_b.
+  pub misplaced-beside : (name : SlotName) (info : Option SlotInfo) (found : SlotInfo) (made_at : ℕ) (made_kind : SlotDamageKind) → info ≡ info_of name (by_slot name slots.a slots.b) → info ≡ Some found → IsMisplacedInfo gates found made_at made_kind → (name ≡ B → IsInfoAmong gates (info_of A slots.a))
+      → (error : LoadError) → error ≡ load.Damaged (Slot found.slot made_at made_kind) → (slot : SlotName) (at : ℕ) (kind : SlotDamageKind) → error ≡ load.Damaged (Slot slot at kind)
+      → (first : NextGate) (a b : List ℕ) (known : Option DiskHistory) → IfKnown (λ h. StandsAfter (header_with First text) [] first h.now.seen → IsReplay h.now.seen) known
+      → IfKnown (λ h. StandsAfter (header_with First text) [] first h.now.seen → IsDamagedBeside catalogue slots slot at kind h.now.seen a b) known
+  misplaced-beside name info found made_at made_kind is there misfit prefix error made slot at kind said first a b None replay = tt
+  misplaced-beside name info found made_at made_kind is there misfit prefix error made slot at kind said first a b (Some h) replay = λ stands is_a is_b.
       let r = replay stands in
       let images : Images = record { log = h.now.seen; slot_a = a; slot_b = b } in
-      let same = same-damage found.slot slot 9 at Place kind (sym made ∙ said) in
-      let here = misplaced-here gates catalogue.tables name slots.a slots.b info found is there misfit prefix a b is_a is_b in
+      let same = same-damage found.slot slot made_at at made_kind kind (sym made ∙ said) in
+      let here = misplaced-here gates catalogue.tables name slots.a slots.b info found made_at made_kind is there misfit prefix a b is_a is_b in
       damaged-at-gates text catalogue r.batches gates images slot at kind r.log r.are
       (subst (λ (s : SlotName). IsSlotDamage (IsAmongGates gates) catalogue.tables s at kind a b) (sym here.0 ∙ same.0)
       (subst (λ (n : ℕ). IsSlotDamage (IsAmongGates gates) catalogue.tables name n kind a b) same.1
-      (subst (λ (k : SlotDamageKind). IsSlotDamage (IsAmongGates gates) catalogue.tables name 9 k a b) same.2 here.1)))
+      (subst (λ (k : SlotDamageKind). IsSlotDamage (IsAmongGates gates) catalogue.tables name made_at k a b) same.2 here.1)))
 
 -- ---- from the header of the log on
 
 abbrev pub IsAttachedTo : NextGate → DiskHistory → Type 0
-IsAttachedTo first h = (text : List ℕ) × IsStore text first.catalogue h.now.seen × StandsAfter text [] first h.now.seen
+IsAttachedTo first h = (text : List ℕ) × IsStore (header_with First text) first.catalogue h.now.seen × StandsAfter (header_with First text) [] first h.now.seen
 
 -- what is said after the first gate of a log's text is said of the log
 pub from-first : (first : NextGate) (P : DiskHistory → Type 0) (known now : Option DiskHistory) → now ≡ known → IfKnown (IsAttachedTo first) known
-    → ((text : List ℕ) → IfKnown (λ h. StandsAfter text [] first h.now.seen → P h) now) → IfKnown P known
+    → ((text : List ℕ) → IfKnown (λ h. StandsAfter (header_with First text) [] first h.now.seen → P h) now) → IfKnown P known
 from-first first P None now same attached says = tt
-from-first first P (Some h) now same attached says = (subst (λ (t : Option DiskHistory). IfKnown (λ k. StandsAfter attached.0 [] first k.now.seen → P k) t) same (says attached.0)) attached.2
+from-first first P (Some h) now same attached says = (subst (λ (t : Option DiskHistory). IfKnown (λ k. StandsAfter (header_with First attached.0) [] first k.now.seen → P k) t) same (says attached.0)) attached.2
 
 -- what holds of an answer's value, by one or two facts of it
 pub ok-by : {A E : Type 0} {P Q : A → Type 0} (result : Result A E) → IfOk result P → ((x : A) → P x → Q x) → IfOk result Q
@@ -133,7 +133,7 @@ ok-by-both (Err e) p q step = tt
 
 -- where the log and the slots are known
 pub ends-known : {T : Type 0} (catalogue : CatalogueState) (slots : Slots) (base : Tables) (ended : Ended T) (first : NextGate) (devices : Devices (Option DiskHistory)) (now : Option DiskHistory) → now ≡ devices.log → IfKnown (IsAttachedTo first) devices.log
-    → ((text x y : List ℕ) → IfKnown (λ h. StandsAfter text [] first h.now.seen → EndsBeside catalogue slots base ended h.now.seen x y) now)
+    → ((text x y : List ℕ) → IfKnown (λ h. StandsAfter (header_with First text) [] first h.now.seen → EndsBeside catalogue slots base ended h.now.seen x y) now)
     → IfKnown (λ h. IsSlot catalogue.tables slots.a h.now.seen) devices.slot_a → IfKnown (λ h. IsSlot catalogue.tables slots.b h.now.seen) devices.slot_b
     → IfKnown (λ x. IfKnown (λ y. AreNewestOf catalogue slots base x.now.seen y.now.seen) devices.slot_b) devices.slot_a → IfImagesKnown (EndedSo ended) devices
 ends-known catalogue slots base ended first devices now same attached ends is_a is_b newest = where-known Of (EndedSo ended)
@@ -145,7 +145,7 @@ ends-known catalogue slots base ended first devices now same attached ends is_a 
         × IfKnown (λ x. IfKnown (λ y. AreNewestOf catalogue slots base x.now.seen y.now.seen) d.slot_b) d.slot_a
 
 pub misplaced-known : (catalogue : CatalogueState) (slots : Slots) (slot : SlotName) (at : ℕ) (kind : SlotDamageKind) (first : NextGate) (devices : Devices (Option DiskHistory)) (now : Option DiskHistory) → now ≡ devices.log → IfKnown (IsAttachedTo first) devices.log
-    → ((text x y : List ℕ) → IfKnown (λ h. StandsAfter text [] first h.now.seen → IsDamagedBeside catalogue slots slot at kind h.now.seen x y) now)
+    → ((text x y : List ℕ) → IfKnown (λ h. StandsAfter (header_with First text) [] first h.now.seen → IsDamagedBeside catalogue slots slot at kind h.now.seen x y) now)
     → IfKnown (λ h. IsSlot catalogue.tables slots.a h.now.seen) devices.slot_a → IfKnown (λ h. IsSlot catalogue.tables slots.b h.now.seen) devices.slot_b → IfImagesKnown (IsDamagedSlot slot at kind) devices
 misplaced-known catalogue slots slot at kind first devices now same attached damaged is_a is_b = where-known Of (IsDamagedSlot slot at kind)
     (λ known of. (from-first first (λ k. IsDamagedBeside catalogue slots slot at kind k.now.seen known.slot_a.now.seen known.slot_b.now.seen) (Some known.log) now of.0 of.1 (λ text. damaged text known.slot_a.now.seen known.slot_b.now.seen)) of.2 of.3)
@@ -156,12 +156,12 @@ misplaced-known catalogue slots slot at kind first devices now same attached dam
 
 -- the bytes of a slot are damaged, and the log is whole
 pub broken-known : (catalogue : CatalogueState) (slot : SlotName) (at : ℕ) (kind : SlotDamageKind) (first : NextGate) → catalogue ≡ first.catalogue → (devices : Devices (Option DiskHistory)) (now : Option DiskHistory) → now ≡ devices.log → IfKnown (IsAttachedTo first) devices.log
-    → ((text : List ℕ) → IfKnown (λ h. StandsAfter text [] first h.now.seen → IsWholeLog text first.catalogue h.now.seen) now)
+    → ((text : List ℕ) → IfKnown (λ h. StandsAfter (header_with First text) [] first h.now.seen → IsWholeLog text first.catalogue h.now.seen) now)
     → IfKnown (λ x. IfKnown (λ y. IsBrokenSlot catalogue.tables slot (slot_fault kind at) x.now.seen y.now.seen) devices.slot_b) devices.slot_a → IfImagesKnown (IsDamagedSlot slot at kind) devices
 broken-known catalogue slot at kind first is devices now same attached whole broken = where-known Of (IsDamagedSlot slot at kind) here devices (same, attached, broken)
   where
-    with-text : (now : Option DiskHistory) → ((text : List ℕ) → IfKnown (λ k. StandsAfter text [] first k.now.seen → IsWholeLog text first.catalogue k.now.seen) now)
-        → (text : List ℕ) → IfKnown (λ k. StandsAfter text [] first k.now.seen → (t : List ℕ) × IsWholeLog t first.catalogue k.now.seen) now
+    with-text : (now : Option DiskHistory) → ((text : List ℕ) → IfKnown (λ k. StandsAfter (header_with First text) [] first k.now.seen → IsWholeLog text first.catalogue k.now.seen) now)
+        → (text : List ℕ) → IfKnown (λ k. StandsAfter (header_with First text) [] first k.now.seen → (t : List ℕ) × IsWholeLog t first.catalogue k.now.seen) now
     with-text None whole text = tt
     with-text (Some k) whole text = λ stands. (text, whole text stands)
 
@@ -181,7 +181,7 @@ broken-known catalogue slot at kind first is devices now same attached whole bro
 
 -- the same of what was answered
 pub ends-all : {T : Type 0} (catalogue : CatalogueState) (slots : Slots) (base : Tables) (first : NextGate) (devices : Devices (Option DiskHistory)) (now : Option DiskHistory) → now ≡ devices.log → IfKnown (IsAttachedTo first) devices.log → (result : Result (Ended T) LoadError)
-    → IfOk result (λ ended. (text x y : List ℕ) → IfKnown (λ h. StandsAfter text [] first h.now.seen → EndsBeside catalogue slots base ended h.now.seen x y) now)
+    → IfOk result (λ ended. (text x y : List ℕ) → IfKnown (λ h. StandsAfter (header_with First text) [] first h.now.seen → EndsBeside catalogue slots base ended h.now.seen x y) now)
     → IfKnown (λ h. IsSlot catalogue.tables slots.a h.now.seen) devices.slot_a → IfKnown (λ h. IsSlot catalogue.tables slots.b h.now.seen) devices.slot_b
     → IfKnown (λ x. IfKnown (λ y. AreNewestOf catalogue slots base x.now.seen y.now.seen) devices.slot_b) devices.slot_a → IfOk result (λ ended. IfImagesKnown (EndedSo ended) devices)
 ends-all catalogue slots base first devices now same attached (Ok ended) ends is_a is_b newest = ends-known catalogue slots base ended first devices now same attached ends is_a is_b newest
@@ -196,7 +196,7 @@ log-cause log_error.NoMemory at kind e = absurd cc
 
 -- a log that was read to its end is whole
 pub reads-whole : (text : List ℕ) (old new : NextGate) (batches : List Batch) (known : Option DiskHistory) → IfKnown (λ h. ReadsTo text old new batches h.now.seen) known
-    → IfKnown (λ h. StandsAfter text [] old h.now.seen → IsWholeLog text old.catalogue h.now.seen) known
+    → IfKnown (λ h. StandsAfter (header_with First text) [] old h.now.seen → IsWholeLog text old.catalogue h.now.seen) known
 reads-whole text old new batches None reads = tt
 reads-whole text old new batches (Some h) reads = λ stands. (txns_by_batch batches, (reads stands).log)
 

@@ -18,11 +18,12 @@ use Rattle.pac_types.specs.Fits.{TxnFits, shape}
 use Rattle.pac_types.specs.Typing.{CatalogueState}
 use Rattle.pac_types.specs.WellFormed.{types}
 use Rattle.pac_flat.specs.FlatForm.{program_of}
+use Rattle.pac_log.specs.declared.header.HeaderForm.TheVariants.{First}
 use Rattle.pac_log.specs.declared.errors.LogError.{LogError}
 use Rattle.pac_log.specs.declared.errors.LogError.TheVariants as error
 use Rattle.pac_log.specs.declared.position.NextGate.{NextGate}
 use Rattle.pac_log.specs.Bodies.{body_bytes}
-use Rattle.pac_log.specs.Logs.{HoldsLog}
+use Rattle.pac_log.specs.Logs.{HoldsLog, header_with}
 use Rattle.pac_log.specs.Places.{IsAfter}
 use Rattle.pac_log.specs.Reading.{IsNextBatch, first_batch}
 use Rattle.pac_recover.specs.declared.log_feed.FeedEnd.{FeedEnd}
@@ -59,11 +60,11 @@ module _ (cat : CatalogueState) where
 
 -- part of a log that this disk holds was given
 abbrev HasPart : NextGate → List Batch → NextGate → List ℕ → List (List Txn) → List (List Txn) → DiskHistory → Type 0
-HasPart from given gate text before after h = HoldsLog text from.catalogue (before ++ after) h.now.seen → IsAfter text before from → (rest : List (List Txn)) × IsPartOf text before after rest given gate
+HasPart from given gate text before after h = HoldsLog (header_with First text) from.catalogue (before ++ after) h.now.seen → IsAfter (header_with First text) before from → (rest : List (List Txn)) × IsPartOf text before after rest given gate
 
 -- nothing is left of it
 abbrev HasAll : NextGate → List Batch → NextGate → List ℕ → List (List Txn) → List (List Txn) → DiskHistory → Type 0
-HasAll from given gate text before after h = HoldsLog text from.catalogue (before ++ after) h.now.seen → IsAfter text before from → IsPartOf text before after [] given gate
+HasAll from given gate text before after h = HoldsLog (header_with First text) from.catalogue (before ++ after) h.now.seen → IsAfter (header_with First text) before from → IsPartOf text before after [] given gate
 
 module _ (from mid : NextGate) (given : List Batch) (text : List ℕ) (before after : List (List Txn)) where
   filling : (known : Option DiskHistory) → IfKnown (HasPart from given mid text before after) known → IfKnown (Fills text from.catalogue before after from mid given) known
@@ -78,7 +79,7 @@ module _ (from mid : NextGate) (given : List Batch) (text : List ℕ) (before af
   filled-all None same fills again = tt
   filled-all (Some h) same fills again = λ holds there.
       let f = fills holds there in
-      let says = again text (before ++ txns_by_batch given) f.rest (holds-mid text from.catalogue before after from mid mid given same h holds f) f.there in
+      let says = again (header_with First text) (before ++ txns_by_batch given) f.rest (holds-mid text from.catalogue before after from mid mid given same h holds f) f.there in
       record { split = f.split ∙ ap (λ (l : List (List Txn)). txns_by_batch given ++ l) (none-first f.rest (ok-same (first_batch f.rest) None says)); there = f.there }
 
 -- ---- it goes on

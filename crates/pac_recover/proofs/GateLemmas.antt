@@ -4,9 +4,10 @@ use Rattle.std.specs.Prelude.{slice_get}
 use Rattle.std.proofs.lemmas.List.{append-nil, length-append, length-map, map-append, take-append-drop, drop_at}
 use Rattle.pac_ops.specs.declared.batch.Batch.{Batch}
 use Rattle.pac_ops.specs.declared.transaction.Txn.{Txn}
+use Rattle.pac_log.specs.declared.header.HeaderForm.TheVariants.{First}
 use Rattle.pac_log.specs.declared.position.NextGate.{NextGate}
 use Rattle.pac_log.specs.Bodies.{body_bytes}
-use Rattle.pac_log.specs.Logs.{log_prefix, all_txns}
+use Rattle.pac_log.specs.Logs.{log_prefix, all_txns, header_with, number_after}
 use Rattle.pac_log.specs.Places.{IsAfter}
 use Rattle.pac_log.proofs.LogLemmas.{prefix_pushed, all_txns-append}
 use Rattle.pac_check.specs.declared.head.Head.{Head}
@@ -61,12 +62,12 @@ same-gate p q n m e f = ap₂ the_gate e f
 
 after-after : (text : List ℕ) (before : List (List Txn)) (t : List Txn) → gate_after_txns (gate_after_batches text before) t ≡ gate_after_batches text (before ++ t ∷ [])
 after-after text before t =
-    let lens : length (log_prefix text (before ++ t ∷ [])) ≡ length (log_prefix text before ++ (1 ∷ (body_bytes t ++ [])))
-    = ap (λ (l : List ℕ). length l) (sym (append-nil (log_prefix text (before ++ t ∷ []))) ∙ prefix_pushed text before t []) in
-    let counted : length (all_txns (before ++ t ∷ [])) ≡ length (all_txns before) + length t
+    let lens : length (log_prefix (header_with First text) (before ++ t ∷ [])) ≡ length (log_prefix (header_with First text) before ++ (1 ∷ (body_bytes t ++ [])))
+    = ap (λ (l : List ℕ). length l) (sym (append-nil (log_prefix (header_with First text) (before ++ t ∷ []))) ∙ prefix_pushed (header_with First text) before t []) in
+    let counted : number_after (header_with First text) (before ++ t ∷ []) ≡ number_after (header_with First text) before + length t
     = omega (arith, ap (λ (l : List Txn). length l) (all_txns-append before (t ∷ [])), length-append (all_txns before) (t ++ []), length-append t []) in
     same-gate _ _ _ _
-    (omega (arith, lens, length-append (log_prefix text before) (1 ∷ (body_bytes t ++ [])), length-append (body_bytes t) []))
+    (omega (arith, lens, length-append (log_prefix (header_with First text) before) (1 ∷ (body_bytes t ++ [])), length-append (body_bytes t) []))
     (sym counted)
 
 pub last-after : (text : List ℕ) (before bs : List (List Txn)) → last_gate (gate_after_batches text before) bs ≡ gate_after_batches text (before ++ bs)
@@ -76,7 +77,7 @@ last-after text before (t ∷ bs) =
     ∙ ap (λ (l : List (List Txn)). gate_after_batches text l) (append_assoc before (t ∷ []) bs)
 
 -- the gates up to one more batch
-pub gates-more : (text : List ℕ) (batches : List (List Txn)) (txns : List Txn) (new : NextGate) (gates : List GatePlace) → gates ≡ gates_from (gate_after_batches text []) batches → IsAfter text (batches ++ txns ∷ []) new
+pub gates-more : (text : List ℕ) (batches : List (List Txn)) (txns : List Txn) (new : NextGate) (gates : List GatePlace) → gates ≡ gates_from (gate_after_batches text []) batches → IsAfter (header_with First text) (batches ++ txns ∷ []) new
     → gates ++ place_of new ∷ [] ≡ gates_from (gate_after_batches text []) (batches ++ txns ∷ [])
 gates-more text batches txns new gates are after =
     let last : gate_after_txns (last_gate (gate_after_batches text []) batches) txns ≡ gate_after_batches text (batches ++ txns ∷ [])

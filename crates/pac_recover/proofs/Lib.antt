@@ -3,7 +3,9 @@ pub mod OverLemmas
 pub mod GateLemmas
 pub mod ReadLemmas
 pub mod RefusalLemmas
+pub mod FirstLogLemmas
 pub mod SlotLemmas
+pub mod TablesLemmas
 pub mod LoadLemmas
 pub mod StandsLemmas
 pub mod BatchLemmas

@@ -11,8 +11,9 @@ use Rattle.pac_outside.specs.declared.devices.Devices.{Devices}
 use Rattle.pac_outside.proofs.Runs.{three}
 use Rattle.pac_types.specs.Fits.{TxnFits}
 use Rattle.pac_types.specs.Typing.{CatalogueState}
+use Rattle.pac_log.specs.declared.header.HeaderForm.TheVariants.{First}
 use Rattle.pac_log.specs.declared.position.NextGate.{NextGate}
-use Rattle.pac_log.specs.Logs.{HoldsLog}
+use Rattle.pac_log.specs.Logs.{HoldsLog, header_with}
 use Rattle.pac_log.specs.Places.{IsAfter}
 use Rattle.pac_log.specs.Reading.{IsStore, StandsAfter}
 use Rattle.pac_check.specs.declared.damage.SlotDamageKind.{SlotDamageKind}
@@ -30,7 +31,7 @@ use Rattle.pac_store.proofs.StandsLemmas.{newest-one}
 use Rattle.pac_recover.specs.declared.gates.GatePlace.{GatePlace}
 use Rattle.pac_recover.specs.declared.loading.Loaded.{Loaded}
 use Rattle.pac_recover.specs.declared.log.WholeLog.{WholeLog}
-use Rattle.pac_recover.specs.Damages.{IsAmongGates, IsAtGate, IsDamagedSlot, IsSlotDamage}
+use Rattle.pac_recover.specs.Damages.{IsAmongGates, IsAtGate, IsDamagedSlot, IsSlotDamage, IsMisfit}
 use Rattle.pac_recover.specs.Gates.{gate_after_batches, gates_from, last_gate, place_of, txns_in, txns_by_batch, RunOn}
 use Rattle.pac_recover.specs.Loading.{AreNewestOf, IsInfoAmong, IsLoadedFrom, stored_of}
 use Rattle.pac_recover.specs.Logs.{FitBatches, HoldsBatches, HoldsLogUpTo, HoldsWhole, IsReadUpTo, IsWhole, ReadsTo}
@@ -54,7 +55,7 @@ whole log first none end read =
     the_gate n = record { place = first.place; txns = n }
 
 abbrev pub IsAttached : NextGate → List ℕ → Type 0
-IsAttached first image = (text : List ℕ) × IsStore text first.catalogue image × StandsAfter text [] first image
+IsAttached first image = (text : List ℕ) × IsStore (header_with First text) first.catalogue image × StandsAfter (header_with First text) [] first image
 
 pub holds-whole : (log : WholeLog) (first : NextGate) (known : Option DiskHistory) → IsReadUpTo first log.reader.gate log.batches.items log.gates.items
     → IfKnown (λ h. IsAttached first h.now.seen) known → ((text : List ℕ) → IfKnown (λ h. ReadsTo text first log.reader.gate log.batches.items h.now.seen) known)
@@ -107,10 +108,10 @@ newest-among gates a b (Some info) e at_a at_b = go (newest-one (info_of A a) (i
 pub placed : (text : List ℕ) (batches : List (List Txn)) (gates : List GatePlace) (slot : SlotName) (state : SlotState) → gates ≡ gates_from (gate_after_batches text []) batches → IsInfoAmong gates (info_of slot state) → IsPlaced text batches state
 placed text batches gates slot Empty are at = tt
 placed text batches gates slot Closed are at = tt
-placed text batches gates slot (Open head) are at = among-gate text batches head (subst (λ (l : List GatePlace). IsAmongGates l head) are at)
+placed text batches gates slot (Open head) are at = (at.0, among-gate text batches head (subst (λ (l : List GatePlace). IsAmongGates l head) are at.1))
 
 -- the damage of the slots beside the gates of a log is one beside the log
-pub damaged-at-gates : (text : List ℕ) (catalogue : CatalogueState) (batches : List (List Txn)) (gates : List GatePlace) (images : Images) (slot : SlotName) (at : ℕ) (kind : SlotDamageKind) → HoldsLog text catalogue batches images.log
+pub damaged-at-gates : (text : List ℕ) (catalogue : CatalogueState) (batches : List (List Txn)) (gates : List GatePlace) (images : Images) (slot : SlotName) (at : ℕ) (kind : SlotDamageKind) → HoldsLog (header_with First text) catalogue batches images.log
     → gates ≡ gates_from (gate_after_batches text []) batches → IsSlotDamage (IsAmongGates gates) catalogue.tables slot at kind images.slot_a images.slot_b → IsDamagedSlot slot at kind images
 damaged-at-gates text catalogue batches gates images slot at kind holds are damage = record { text = text; catalogue = catalogue; batches = batches; log = holds; damage = go damage }
   where
@@ -120,22 +121,22 @@ damaged-at-gates text catalogue batches gates images slot at kind holds are dama
     back : (head : Head) → IsAtGate text batches head → IsAmongGates gates head
     back head is = subst (λ (l : List GatePlace). IsAmongGates l head) (sym are) (gate-among text batches head is)
 
+    misfit : (head : Head) → IsMisfit (IsAmongGates gates) head at kind → IsMisfit (IsAtGate text batches) head at kind
+    misfit head (inl other) = inl other
+    misfit head (inr (at_9, place, named, none)) = inr (at_9, place, named, λ is. none (back head is))
+
     go : IsSlotDamage (IsAmongGates gates) catalogue.tables slot at kind images.slot_a images.slot_b → IsSlotDamage (IsAtGate text batches) catalogue.tables slot at kind images.slot_a images.slot_b
     go (inl broken) = inl broken
-    go (inr (at_9, place, wrong)) = inr (
-      at_9,
-      place,
-      record {
-        state_a = wrong.state_a;
-        state_b = wrong.state_b;
-        is_a = wrong.is_a;
-        is_b = wrong.is_b;
-        head = wrong.head;
-        opens = wrong.opens;
-        misfit = λ is. wrong.misfit (back wrong.head is);
-        first = λ b other open_a. to other (wrong.first b other open_a);
-      },
-    )
+    go (inr wrong) = inr (record {
+      state_a = wrong.state_a;
+      state_b = wrong.state_b;
+      is_a = wrong.is_a;
+      is_b = wrong.is_b;
+      head = wrong.head;
+      opens = wrong.opens;
+      misfit = misfit wrong.head wrong.misfit;
+      first = λ b other open_a. let fits = wrong.first b other open_a in (fits.0, to other fits.1);
+    })
 
 -- the same of a log that was read
 pub damaged-beside : (log : WholeLog) (images : Images) (slot : SlotName) (at : ℕ) (kind : SlotDamageKind) → HoldsWhole log images.log
@@ -181,8 +182,8 @@ module _ (log : WholeLog) (loaded : Loaded) (count : ℕ) (is : IsWhole log) (pr
   from-images images at_a at_b holds is_a is_b newest = record {
     text = holds.text;
     batches = txns_by_batch log.batches.items;
-    log = subst (λ (c : CatalogueState). HoldsLog holds.text c (txns_by_batch log.batches.items) images.log) (sym same) holds.holds.log;
-    end = subst (λ (g : NextGate). IsAfter holds.text (txns_by_batch log.batches.items) g) (ap (λ r. r.gate) (sym reader)) holds.holds.end;
+    log = subst (λ (c : CatalogueState). HoldsLog (header_with First holds.text) c (txns_by_batch log.batches.items) images.log) (sym same) holds.holds.log;
+    end = subst (λ (g : NextGate). IsAfter (header_with First holds.text) (txns_by_batch log.batches.items) g) (ap (λ r. r.gate) (sym reader)) holds.holds.end;
     is_a = is_a;
     is_b = is_b;
     place_a = placed holds.text (txns_by_batch log.batches.items) log.gates.items A loaded.slots.a holds.gates at_a;

@@ -1,5 +1,5 @@
 -- A log is read from gate to gate.
-use Rattle.std.proofs.Common.{◌≡◌, ◌∙◌, ℕ, ◌≤◌, ◌+◌, List, [], ◌∷◌, ◌++◌, length, Option, Some, None, Result, Ok, Err, sym, ap, subst, arith}
+use Rattle.std.proofs.Common.{◌≡◌, ◌∙◌, ℕ, ◌≤◌, ◌+◌, List, [], ◌∷◌, ◌++◌, length, Option, Some, None, Result, Ok, Err, sym, ap, subst, arith, inl}
 use Rattle.std.specs.List.{All, AllByRecursion}
 use Rattle.std.proofs.lemmas.List.Elements.{recursion_from_All}
 use Rattle.pac_ops.specs.declared.batch.Batch.{Batch}
@@ -7,11 +7,13 @@ use Rattle.pac_ops.specs.declared.transaction.Txn.{Txn}
 use Rattle.pac_outside.specs.Disk.{DiskHistory, IfKnown}
 use Rattle.pac_types.specs.Fits.{TxnFits}
 use Rattle.pac_types.specs.Typing.{CatalogueState}
+use Rattle.pac_log.specs.declared.header.Header.{Header}
+use Rattle.pac_log.specs.declared.header.HeaderForm.TheVariants.{First}
 use Rattle.pac_log.specs.declared.damage.DamageKind.{DamageKind}
 use Rattle.pac_log.specs.declared.errors.LogError.{LogError}
 use Rattle.pac_log.specs.declared.errors.LogError.TheVariants as error
 use Rattle.pac_log.specs.declared.position.NextGate.{NextGate}
-use Rattle.pac_log.specs.Logs.{HoldsLog}
+use Rattle.pac_log.specs.Logs.{HoldsLog, header_with}
 use Rattle.pac_log.specs.Places.{IsAfter}
 use Rattle.pac_log.specs.Reading.{IsNextBatch, IsStore, StandsAfter, ReportsOfImage}
 use Rattle.pac_recover.specs.declared.gates.GatePlace.{GatePlace}
@@ -60,39 +62,39 @@ more-txns old new batch next = omega (arith, ap (λ (g : NextGate). g.txns) next
 
 -- the image holds what was read so far
 abbrev pub ReadsAfter : List ℕ → NextGate → NextGate → List Batch → List ℕ → Type 0
-ReadsAfter text old new batches image = StandsAfter text [] old image → StandsAfter text (txns_by_batch batches) new image
+ReadsAfter text old new batches image = StandsAfter (header_with First text) [] old image → StandsAfter (header_with First text) (txns_by_batch batches) new image
 
 abbrev pub ReportsNext : NextGate → NextGate → Result (Option Batch) LogError → Option DiskHistory → Type 0
-ReportsNext old new result known = (text : List ℕ) (batches : List (List Txn)) → IfKnown (λ h. StandsAfter text batches old h.now.seen → ReportsOfImage text batches old new h.now.seen result) known
+ReportsNext old new result known = (header : Header) (batches : List (List Txn)) → IfKnown (λ h. StandsAfter header batches old h.now.seen → ReportsOfImage header batches old new h.now.seen result) known
 
 pub reads-more : (text : List ℕ) (old mid new : NextGate) (bs : List Batch) (batch : Batch) (known : Option DiskHistory)
     → IfKnown (λ h. ReadsAfter text old mid bs h.now.seen) known → ReportsNext mid new (Ok (Some batch)) known → IfKnown (λ h. ReadsAfter text old new (bs ++ batch ∷ []) h.now.seen) known
 reads-more text old mid new bs batch None so_far knows = tt
 reads-more text old mid new bs batch (Some h) so_far knows = λ stands.
-    subst (λ (l : List (List Txn)). StandsAfter text l new h.now.seen) (sym (txns-push bs batch)) (knows text (txns_by_batch bs) (so_far stands))
+    subst (λ (l : List (List Txn)). StandsAfter (header_with First text) l new h.now.seen) (sym (txns-push bs batch)) (knows (header_with First text) (txns_by_batch bs) (so_far stands))
 
 pub reads-all : (text : List ℕ) (old mid new : NextGate) (bs : List Batch) (known : Option DiskHistory) → mid.catalogue ≡ old.catalogue → new ≡ mid
     → IfKnown (λ h. ReadsAfter text old mid bs h.now.seen) known → ReportsNext mid new (Ok None) known → IfKnown (λ h. ReadsTo text old new bs h.now.seen) known
 reads-all text old mid new bs None same end so_far knows = tt
 reads-all text old mid new bs (Some h) same end so_far knows = λ stands. record {
-  log = subst (λ (c : CatalogueState). HoldsLog text c (txns_by_batch bs) h.now.seen) same (knows text (txns_by_batch bs) (so_far stands));
-  end = subst (λ (g : NextGate). IsAfter text (txns_by_batch bs) g) (sym end) (so_far stands).after;
+  log = subst (λ (c : CatalogueState). HoldsLog (header_with First text) c (txns_by_batch bs) h.now.seen) same (knows (header_with First text) (txns_by_batch bs) (so_far stands));
+  end = subst (λ (g : NextGate). IsAfter (header_with First text) (txns_by_batch bs) g) (sym end) (so_far stands).after;
 }
 
 pub reads-damage : (text : List ℕ) (old mid new : NextGate) (bs : List Batch) (at : ℕ) (kind : DamageKind) (known : Option DiskHistory)
     → IfKnown (λ h. ReadsAfter text old mid bs h.now.seen) known → ReportsNext mid new (Err (error.Damaged at kind)) known
-    → IfKnown (λ h. StandsAfter text [] old h.now.seen → IsDamagedLog at kind h.now.seen) known
+    → IfKnown (λ h. StandsAfter (header_with First text) [] old h.now.seen → IsDamagedLog at kind h.now.seen) known
 reads-damage text old mid new bs at kind None so_far knows = tt
-reads-damage text old mid new bs at kind (Some h) so_far knows = λ stands. record {
+reads-damage text old mid new bs at kind (Some h) so_far knows = λ stands. inl (record {
   text = text;
   catalogue = mid.catalogue;
   batches = txns_by_batch bs;
-  damage = knows text (txns_by_batch bs) (so_far stands);
-}
+  damage = knows (header_with First text) (txns_by_batch bs) (so_far stands);
+})
 
 -- damage after a first gate is damage of the log that begins there
-pub damage-after : (first : NextGate) (at : ℕ) (kind : DamageKind) (known now : Option DiskHistory) → now ≡ known → IfKnown (λ h. (text : List ℕ) × IsStore text first.catalogue h.now.seen × StandsAfter text [] first h.now.seen) known
-    → ((text : List ℕ) → IfKnown (λ h. StandsAfter text [] first h.now.seen → IsDamagedLog at kind h.now.seen) now) → IfKnown (λ h. IsDamagedLog at kind h.now.seen) known
+pub damage-after : (first : NextGate) (at : ℕ) (kind : DamageKind) (known now : Option DiskHistory) → now ≡ known → IfKnown (λ h. (text : List ℕ) × IsStore (header_with First text) first.catalogue h.now.seen × StandsAfter (header_with First text) [] first h.now.seen) known
+    → ((text : List ℕ) → IfKnown (λ h. StandsAfter (header_with First text) [] first h.now.seen → IsDamagedLog at kind h.now.seen) now) → IfKnown (λ h. IsDamagedLog at kind h.now.seen) known
 damage-after first at kind None now same attached damaged = tt
 damage-after first at kind (Some h) now same attached damaged =
-    (subst (λ (t : Option DiskHistory). IfKnown (λ k. StandsAfter attached.0 [] first k.now.seen → IsDamagedLog at kind k.now.seen) t) same (damaged attached.0)) attached.2
+    (subst (λ (t : Option DiskHistory). IfKnown (λ k. StandsAfter (header_with First attached.0) [] first k.now.seen → IsDamagedLog at kind k.now.seen) t) same (damaged attached.0)) attached.2

@@ -1,5 +1,5 @@
 -- Batches that are executed while they are read, from gate to gate.
-use Rattle.std.proofs.Common.{◌≡◌, ◌∙◌, ℕ, zero, suc, ◌+◌, Bool, true, false, List, [], ◌∷◌, ◌++◌, length, drop, Option, Some, None, Result, Ok, Err, refl, sym, ap, subst, arith, append_assoc}
+use Rattle.std.proofs.Common.{◌≡◌, ◌∙◌, ℕ, zero, suc, ◌+◌, Bool, true, false, List, [], ◌∷◌, ◌++◌, length, drop, Option, Some, None, Result, Ok, Err, refl, sym, ap, subst, arith, append_assoc, inl}
 use Rattle.std.proofs.lemmas.List.{append-nil, length-append, drop_at}
 use Rattle.pac_value.specs.Expressions.{◌>>=◌}
 use Rattle.pac_value.specs.State.{Tables}
@@ -10,10 +10,11 @@ use Rattle.pac_outside.specs.Disk.{DiskHistory, IfKnown}
 use Rattle.pac_types.specs.Execution.{serial}
 use Rattle.pac_types.specs.Typing.{CatalogueState}
 use Rattle.pac_types.proofs.ExecutionLemmas.{serial-parts}
+use Rattle.pac_log.specs.declared.header.HeaderForm.TheVariants.{First}
 use Rattle.pac_log.specs.declared.damage.DamageKind.{DamageKind}
 use Rattle.pac_log.specs.declared.errors.LogError.TheVariants as error
 use Rattle.pac_log.specs.declared.position.NextGate.{NextGate}
-use Rattle.pac_log.specs.Logs.{HoldsLog, all_txns}
+use Rattle.pac_log.specs.Logs.{HoldsLog, all_txns, header_with}
 use Rattle.pac_log.specs.Places.{IsAfter}
 use Rattle.pac_log.specs.Reading.{StandsAfter}
 use Rattle.pac_log.proofs.LogLemmas.{all_txns-append}
@@ -31,7 +32,7 @@ some-same : (x y : GatePlace) → Some x ≡ Some y → x ≡ y
 some-same x y e = cc
 
 -- the gate before the first batch
-pub first-gate : (text : List ℕ) (gate : NextGate) → IsAfter text [] gate → place_of gate ≡ gate_after_batches text []
+pub first-gate : (text : List ℕ) (gate : NextGate) → IsAfter (header_with First text) [] gate → place_of gate ≡ gate_after_batches text []
 first-gate text gate after = same-gate _ _ _ _ after.place after.txns
 
 -- ---- batches that are skipped
@@ -39,7 +40,7 @@ first-gate text gate after = same-gate _ _ _ _ after.place after.txns
 -- these batches stand before the gate, which is still to be looked at; those before it are not the one that is wanted
 pub record IsSkipping (text : List ℕ) (wanted : GatePlace) (gate : NextGate) (gates : List GatePlace) (image : List ℕ) : Type 0 where
   pub batches : List (List Txn)
-  pub stands : StandsAfter text batches gate image
+  pub stands : StandsAfter (header_with First text) batches gate image
   pub are : gates ++ place_of gate ∷ [] ≡ gates_from (gate_after_batches text []) batches
   pub absent : IsNone gates wanted
 
@@ -53,12 +54,12 @@ module _ (text : List ℕ) (wanted : GatePlace) (old mid new : NextGate) (gates 
   reached : (h : DiskHistory) (s : IsSkipping text wanted mid gates h.now.seen) → HasGatesTo text s.batches mid pushed h.now.seen
   reached h s = record { stands = s.stands; are = pushes ∙ ap (λ (p : GatePlace). gates ++ p ∷ []) placed ∙ s.are }
 
-  pub skips-more : (batch : Batch) (known : Option DiskHistory) → (place ≡ wanted → ⊥) → IfKnown (λ h. StandsAfter text [] old h.now.seen → IsSkipping text wanted mid gates h.now.seen) known
-      → ReportsNext mid new (Ok (Some batch)) known → IfKnown (λ h. StandsAfter text [] old h.now.seen → IsSkipping text wanted new pushed h.now.seen) known
+  pub skips-more : (batch : Batch) (known : Option DiskHistory) → (place ≡ wanted → ⊥) → IfKnown (λ h. StandsAfter (header_with First text) [] old h.now.seen → IsSkipping text wanted mid gates h.now.seen) known
+      → ReportsNext mid new (Ok (Some batch)) known → IfKnown (λ h. StandsAfter (header_with First text) [] old h.now.seen → IsSkipping text wanted new pushed h.now.seen) known
   skips-more batch None other so_far knows = tt
   skips-more batch (Some h) other so_far knows = λ stands.
       let s = so_far stands in
-      let next : StandsAfter text (s.batches ++ batch.txns ∷ []) new h.now.seen = knows text s.batches s.stands in
+      let next : StandsAfter (header_with First text) (s.batches ++ batch.txns ∷ []) new h.now.seen = knows (header_with First text) s.batches s.stands in
       record {
         batches = s.batches ++ batch.txns ∷ [];
         stands = next;
@@ -66,15 +67,15 @@ module _ (text : List ℕ) (wanted : GatePlace) (old mid new : NextGate) (gates 
         absent = subst (λ (l : List GatePlace). IsNone l wanted) (sym pushes) (none-push gates wanted place s.absent other);
       }
 
-  pub skips-there : (known : Option DiskHistory) → place ≡ wanted → IfKnown (λ h. StandsAfter text [] old h.now.seen → IsSkipping text wanted mid gates h.now.seen) known
-      → IfKnown (λ h. StandsAfter text [] old h.now.seen → HasSkipped text wanted true mid pushed h.now.seen) known
+  pub skips-there : (known : Option DiskHistory) → place ≡ wanted → IfKnown (λ h. StandsAfter (header_with First text) [] old h.now.seen → IsSkipping text wanted mid gates h.now.seen) known
+      → IfKnown (λ h. StandsAfter (header_with First text) [] old h.now.seen → HasSkipped text wanted true mid pushed h.now.seen) known
   skips-there None same so_far = tt
   skips-there (Some h) same so_far = λ stands.
       let s = so_far stands in
       record { batches = s.batches; reached = reached h s; found = λ _. sym placed ∙ same; absent = λ e. absurd cc }
 
-  pub skips-all : (known : Option DiskHistory) → (place ≡ wanted → ⊥) → new ≡ mid → IfKnown (λ h. StandsAfter text [] old h.now.seen → IsSkipping text wanted mid gates h.now.seen) known
-      → ReportsNext mid new (Ok None) known → IfKnown (λ h. StandsAfter text [] old h.now.seen → HasSkipped text wanted false new pushed h.now.seen) known
+  pub skips-all : (known : Option DiskHistory) → (place ≡ wanted → ⊥) → new ≡ mid → IfKnown (λ h. StandsAfter (header_with First text) [] old h.now.seen → IsSkipping text wanted mid gates h.now.seen) known
+      → ReportsNext mid new (Ok None) known → IfKnown (λ h. StandsAfter (header_with First text) [] old h.now.seen → HasSkipped text wanted false new pushed h.now.seen) known
   skips-all None other end so_far knows = tt
   skips-all (Some h) other end so_far knows = λ stands.
       let s = so_far stands in
@@ -82,22 +83,22 @@ module _ (text : List ℕ) (wanted : GatePlace) (old mid new : NextGate) (gates 
         batches = s.batches;
         reached = reached h s;
         found = λ e. absurd cc;
-        absent = λ _. (knows text s.batches s.stands, subst (λ (l : List GatePlace). IsNone l wanted) (sym pushes) (none-push gates wanted place s.absent other));
+        absent = λ _. (knows (header_with First text) s.batches s.stands, subst (λ (l : List GatePlace). IsNone l wanted) (sym pushes) (none-push gates wanted place s.absent other));
       })
 
-  pub skips-damage : (at : ℕ) (kind : DamageKind) (known : Option DiskHistory) → IfKnown (λ h. StandsAfter text [] old h.now.seen → IsSkipping text wanted mid gates h.now.seen) known
-      → ReportsNext mid new (Err (error.Damaged at kind)) known → IfKnown (λ h. StandsAfter text [] old h.now.seen → IsDamagedLog at kind h.now.seen) known
+  pub skips-damage : (at : ℕ) (kind : DamageKind) (known : Option DiskHistory) → IfKnown (λ h. StandsAfter (header_with First text) [] old h.now.seen → IsSkipping text wanted mid gates h.now.seen) known
+      → ReportsNext mid new (Err (error.Damaged at kind)) known → IfKnown (λ h. StandsAfter (header_with First text) [] old h.now.seen → IsDamagedLog at kind h.now.seen) known
   skips-damage at kind None so_far knows = tt
   skips-damage at kind (Some h) so_far knows = λ stands.
       let s = so_far stands in
-      record { text = text; catalogue = mid.catalogue; batches = s.batches; damage = knows text s.batches s.stands }
+      inl (record { text = text; catalogue = mid.catalogue; batches = s.batches; damage = knows (header_with First text) s.batches s.stands })
 
 -- ---- batches that are executed
 
 -- after the batches before the old gate more stand in the image, up to the new gate, and they were executed over the tables
 pub record IsReplaying (text : List ℕ) (catalogue : CatalogueState) (before : List (List Txn)) (old mid : NextGate) (base : Tables) (outcome : Result Tables Note) (gates : List GatePlace) (image : List ℕ) : Type 0 where
   pub after : List (List Txn)
-  pub stands : StandsAfter text (before ++ after) mid image
+  pub stands : StandsAfter (header_with First text) (before ++ after) mid image
   pub are : gates ≡ gates_from (gate_after_batches text []) (before ++ after)
   pub gives : outcome ≡ serial catalogue.procs (old.txns + 1) (all_txns after) base
 
@@ -109,7 +110,7 @@ module _ (text : List ℕ) (catalogue : CatalogueState) (before : List (List Txn
   replays-nothing outcome gates None same none = tt
   replays-nothing outcome gates (Some h) same none = λ reached. record {
     after = [];
-    stands = subst (λ (l : List (List Txn)). StandsAfter text l old h.now.seen) (sym (append-nil before)) reached.stands;
+    stands = subst (λ (l : List (List Txn)). StandsAfter (header_with First text) l old h.now.seen) (sym (append-nil before)) reached.stands;
     are = same ∙ reached.are ∙ ap (λ (l : List (List Txn)). gates_from (gate_after_batches text []) l) (sym (append-nil before));
     gives = none;
   }
@@ -137,11 +138,11 @@ module _ (text : List ℕ) (catalogue : CatalogueState) (before : List (List Txn
     replays-more batch next pushed place None does first_is pushes placed so_far knows = tt
     replays-more batch next pushed place (Some h) does first_is pushes placed so_far knows = λ reached.
         let s = so_far reached in
-        let stands : StandsAfter text ((before ++ s.after) ++ batch.txns ∷ []) new h.now.seen = knows text (before ++ s.after) s.stands in
+        let stands : StandsAfter (header_with First text) ((before ++ s.after) ++ batch.txns ∷ []) new h.now.seen = knows (header_with First text) (before ++ s.after) s.stands in
         let assoc : (before ++ s.after) ++ batch.txns ∷ [] ≡ before ++ (s.after ++ batch.txns ∷ []) = append_assoc before s.after (batch.txns ∷ []) in
         record {
           after = s.after ++ batch.txns ∷ [];
-          stands = subst (λ (l : List (List Txn)). StandsAfter text l new h.now.seen) assoc stands;
+          stands = subst (λ (l : List (List Txn)). StandsAfter (header_with First text) l new h.now.seen) assoc stands;
           are = pushes ∙ ap (λ (p : GatePlace). gates ++ p ∷ []) placed ∙ gates-more text (before ++ s.after) batch.txns new gates s.are stands.after
               ∙ ap (λ (l : List (List Txn)). gates_from (gate_after_batches text []) l) assoc;
           gives = does
@@ -158,8 +159,8 @@ module _ (text : List ℕ) (catalogue : CatalogueState) (before : List (List Txn
         let s = so_far reached in
         record {
           after = s.after;
-          log = subst (λ (c : CatalogueState). HoldsLog text c (before ++ s.after) h.now.seen) same (knows text (before ++ s.after) s.stands);
-          end = subst (λ (g : NextGate). IsAfter text (before ++ s.after) g) (sym end) s.stands.after;
+          log = subst (λ (c : CatalogueState). HoldsLog (header_with First text) c (before ++ s.after) h.now.seen) same (knows (header_with First text) (before ++ s.after) s.stands);
+          end = subst (λ (g : NextGate). IsAfter (header_with First text) (before ++ s.after) g) (sym end) s.stands.after;
           are = s.are;
           outcome = ended ∙ s.gives;
         }
@@ -169,7 +170,7 @@ module _ (text : List ℕ) (catalogue : CatalogueState) (before : List (List Txn
     replays-damage at kind None so_far knows = tt
     replays-damage at kind (Some h) so_far knows = λ reached.
         let s = so_far reached in
-        record { text = text; catalogue = mid.catalogue; batches = before ++ s.after; damage = knows text (before ++ s.after) s.stands }
+        inl (record { text = text; catalogue = mid.catalogue; batches = before ++ s.after; damage = knows (header_with First text) (before ++ s.after) s.stands })
 
 -- ---- a whole log
 
@@ -179,7 +180,7 @@ module _ {T : Type 0} (text : List ℕ) (catalogue : CatalogueState) (old new : 
 
   -- from the first gate on
   pub whole-replay : (first : List GatePlace) (known : Option DiskHistory) → first ≡ place_of old ∷ [] → IfKnown (Rests old [] first) known
-      → IfKnown (λ h. StandsAfter text [] old h.now.seen → IsReplayOf text catalogue None base new replayed gates h.now.seen) known
+      → IfKnown (λ h. StandsAfter (header_with First text) [] old h.now.seen → IsReplayOf text catalogue None base new replayed gates h.now.seen) known
   whole-replay first None is rests = tt
   whole-replay first (Some h) is rests = λ stands.
       let rest = rests (record { stands = stands; are = is ∙ ap (λ (g : GatePlace). g ∷ []) (first-gate text old stands.after) }) in
@@ -194,14 +195,15 @@ module _ {T : Type 0} (text : List ℕ) (catalogue : CatalogueState) (old new : 
 
   -- from the gate of a slot on
   pub replay-there : (mid : NextGate) (info : SlotInfo) (reached : List GatePlace) (known : Option DiskHistory)
-      → IfKnown (λ h. StandsAfter text [] old h.now.seen → HasSkipped text (record { place = info.place; txns = info.txns }) true mid reached h.now.seen) known
+      → IfKnown (λ h. StandsAfter (header_with First text) [] old h.now.seen → HasSkipped text (record { place = info.place; txns = info.txns }) true mid reached h.now.seen) known
       → ((before : List (List Txn)) → IfKnown (Rests mid before reached) known)
-      → IfKnown (λ h. StandsAfter text [] old h.now.seen → IsReplayOf text catalogue (Some info) base new replayed gates h.now.seen) known
+      → IfKnown (λ h. StandsAfter (header_with First text) [] old h.now.seen → IsReplayOf text catalogue (Some info) base new replayed gates h.now.seen) known
   replay-there mid info reached None skips rests = tt
   replay-there mid info reached (Some h) skips rests = λ stands.
       let s = skips stands in
       let rest = rests s.batches s.reached in
-      let number : length (all_txns s.batches) ≡ info.txns = sym s.reached.stands.after.txns ∙ ap (λ (g : GatePlace). g.txns) (s.found refl) in
+      let here : mid.txns ≡ info.txns = ap (λ (g : GatePlace). g.txns) (s.found refl) in
+      let number : length (all_txns s.batches) ≡ info.txns = omega (arith, s.reached.stands.after.txns, here) in
       let all : all_txns (s.batches ++ rest.after) ≡ all_txns s.batches ++ all_txns rest.after = all_txns-append s.batches rest.after in
       record {
         batches = s.batches ++ rest.after;
@@ -210,37 +212,37 @@ module _ {T : Type 0} (text : List ℕ) (catalogue : CatalogueState) (old new : 
         are = rest.are;
         number = λ _. omega (arith, number, ap (λ (l : List Txn). length l) all, length-append (all_txns s.batches) (all_txns rest.after));
         outcome = λ _. rest.outcome
-            ∙ ap (λ (n : ℕ). serial catalogue.procs (n + 1) (all_txns rest.after) base) (s.reached.stands.after.txns ∙ number)
+            ∙ ap (λ (n : ℕ). serial catalogue.procs (n + 1) (all_txns rest.after) base) here
             ∙ ap (λ (l : List Txn). serial catalogue.procs (info.txns + 1) l base) (sym (ap (λ (l : List Txn). drop info.txns l) all ∙ drop_at (all_txns s.batches) (all_txns rest.after) info.txns number));
       }
 
   -- where that gate isn't there
   pub replay-absent : (info : SlotInfo) (known : Option DiskHistory) → new.catalogue ≡ catalogue
-      → IfKnown (λ h. StandsAfter text [] old h.now.seen → HasSkipped text (record { place = info.place; txns = info.txns }) false new gates h.now.seen) known
-      → IfKnown (λ h. StandsAfter text [] old h.now.seen → IsReplayOf text catalogue (Some info) base new replayed gates h.now.seen) known
+      → IfKnown (λ h. StandsAfter (header_with First text) [] old h.now.seen → HasSkipped text (record { place = info.place; txns = info.txns }) false new gates h.now.seen) known
+      → IfKnown (λ h. StandsAfter (header_with First text) [] old h.now.seen → IsReplayOf text catalogue (Some info) base new replayed gates h.now.seen) known
   replay-absent info None same skips = tt
   replay-absent info (Some h) same skips = λ stands.
       let s = skips stands in
       let none = s.absent refl in
       record {
         batches = s.batches;
-        log = subst (λ (c : CatalogueState). HoldsLog text c s.batches h.now.seen) same none.0;
+        log = subst (λ (c : CatalogueState). HoldsLog (header_with First text) c s.batches h.now.seen) same none.0;
         end = s.reached.stands.after;
         are = s.reached.are;
-        number = λ among. absurd (none.1 among.0 among.1);
-        outcome = λ among. absurd (none.1 among.0 among.1);
+        number = λ among. absurd (none.1 among.1.0 among.1.1);
+        outcome = λ among. absurd (none.1 among.1.0 among.1.1);
       }
 
 -- damage after a gate
 pub damage-there : (text : List ℕ) (old mid : NextGate) (wanted : GatePlace) (is_there : Bool) (reached : List GatePlace) (at : ℕ) (kind : DamageKind) (known : Option DiskHistory)
-    → IfKnown (λ h. StandsAfter text [] old h.now.seen → HasSkipped text wanted is_there mid reached h.now.seen) known
+    → IfKnown (λ h. StandsAfter (header_with First text) [] old h.now.seen → HasSkipped text wanted is_there mid reached h.now.seen) known
     → ((before : List (List Txn)) → IfKnown (λ h. HasGatesTo text before mid reached h.now.seen → IsDamagedLog at kind h.now.seen) known)
-    → IfKnown (λ h. StandsAfter text [] old h.now.seen → IsDamagedLog at kind h.now.seen) known
+    → IfKnown (λ h. StandsAfter (header_with First text) [] old h.now.seen → IsDamagedLog at kind h.now.seen) known
 damage-there text old mid wanted is_there reached at kind None skips damaged = tt
 damage-there text old mid wanted is_there reached at kind (Some h) skips damaged = λ stands. let s = skips stands in damaged s.batches s.reached
 
 pub damage-whole : (text : List ℕ) (old : NextGate) (first : List GatePlace) (at : ℕ) (kind : DamageKind) (known : Option DiskHistory) → first ≡ place_of old ∷ []
     → IfKnown (λ h. HasGatesTo text [] old first h.now.seen → IsDamagedLog at kind h.now.seen) known
-    → IfKnown (λ h. StandsAfter text [] old h.now.seen → IsDamagedLog at kind h.now.seen) known
+    → IfKnown (λ h. StandsAfter (header_with First text) [] old h.now.seen → IsDamagedLog at kind h.now.seen) known
 damage-whole text old first at kind None is damaged = tt
 damage-whole text old first at kind (Some h) is damaged = λ stands. damaged (record { stands = stands; are = is ∙ ap (λ (g : GatePlace). g ∷ []) (first-gate text old stands.after) })

@@ -10,8 +10,9 @@ use Rattle.pac_outside.specs.Parts.{reads_of}
 use Rattle.pac_outside.specs.declared.devices.Devices.{Devices}
 use Rattle.pac_types.specs.Execution.{serial}
 use Rattle.pac_types.specs.Typing.{CatalogueState}
+use Rattle.pac_log.specs.declared.header.HeaderForm.TheVariants.{First}
 use Rattle.pac_log.specs.declared.position.NextGate.{NextGate}
-use Rattle.pac_log.specs.Logs.{HoldsLog, all_txns}
+use Rattle.pac_log.specs.Logs.{HoldsLog, all_txns, header_with}
 use Rattle.pac_log.specs.Readers.{at_first}
 use Rattle.pac_log.specs.Reading.{StandsAfter}
 use Rattle.pac_log.proofs.OneGate.{few}
@@ -44,9 +45,9 @@ pub from-gates : (log : PassedLog) (gate : NextGate) (total : ℕ) (image : List
 from-gates log gate total image is counted holds = record {
   text = holds.text;
   batches = holds.whole.batches;
-  log = subst (λ (g : NextGate). HoldsLog holds.text g.catalogue holds.whole.batches image) (sym is) holds.whole.log;
-  start = subst (λ (g : NextGate). StandsAfter holds.text [] g image) (sym is) holds.start;
-  counted = counted ∙ holds.whole.end.txns;
+  log = subst (λ (g : NextGate). HoldsLog (header_with First holds.text) g.catalogue holds.whole.batches image) (sym is) holds.whole.log;
+  start = subst (λ (g : NextGate). StandsAfter (header_with First holds.text) [] g image) (sym is) holds.start;
+  counted = omega (arith, counted, holds.whole.end.txns);
 }
 
 pub log-known : (log : PassedLog) (gate : NextGate) (total : ℕ) (known : Option DiskHistory) → ((image : List ℕ) → HoldsGates log image → HoldsLogFrom gate total image)
@@ -74,7 +75,7 @@ newest-at text batches a b (Some info) e at_a at_b = go (newest-one (info_of A a
     at : (slot : SlotName) (state : SlotState) → info_of slot state ≡ Some info → IsPlaced text batches state → IsAtGateOf text batches (Some info)
     at slot Empty h is = absurd cc
     at slot Closed h is = absurd cc
-    at slot (Open head) h is = subst (λ (o : Option SlotInfo). IsAtGateOf text batches o) h is
+    at slot (Open head) h is = subst (λ (o : Option SlotInfo). IsAtGateOf text batches o) h is.1
 
     go : (info_of A a ≡ Some info) ⊎ (info_of B b ≡ Some info) → IsAtGateOf text batches (Some info)
     go (inl h) = at A a h at_a
@@ -83,7 +84,7 @@ newest-at text batches a b (Some info) e at_a at_b = go (newest-one (info_of A a
 -- the newest slot has no more transactions than the log
 pub number-within : (text : List ℕ) (batches : List (List Txn)) (newest : Option SlotInfo) → IsAtGateOf text batches newest → saved_txns newest ≤ length (all_txns batches)
 number-within text batches None at = omega arith
-number-within text batches (Some info) at = few text batches info.place info.txns at
+number-within text batches (Some info) at = omega (arith, few (header_with First text) batches info.place info.txns at)
 
 -- ---- the whole
 
@@ -95,9 +96,9 @@ module _ (log : PassedLog) (scanned : Scanned) (same : scanned.catalogue ≡ log
     log = record {
       text = holds.text;
       batches = holds.whole.batches;
-      log = subst (λ (g : NextGate). HoldsLog holds.text g.catalogue holds.whole.batches images.log) (sym gate) holds.whole.log;
-      start = subst (λ (g : NextGate). StandsAfter holds.text [] g images.log) (sym gate) holds.start;
-      counted = total ∙ holds.whole.end.txns;
+      log = subst (λ (g : NextGate). HoldsLog (header_with First holds.text) g.catalogue holds.whole.batches images.log) (sym gate) holds.whole.log;
+      start = subst (λ (g : NextGate). StandsAfter (header_with First holds.text) [] g images.log) (sym gate) holds.start;
+      counted = omega (arith, total, holds.whole.end.txns);
     };
     is_a = is_a;
     is_b = is_b;
@@ -123,7 +124,7 @@ scanned-ends scanned outcome images same number is executed =
       is = record {
         text = is.log.text;
         batches = is.log.batches;
-        log = subst (λ (c : CatalogueState). HoldsLog is.log.text c is.log.batches images.log) same is.log.log;
+        log = subst (λ (c : CatalogueState). HoldsLog (header_with First is.log.text) c is.log.batches images.log) same is.log.log;
         a = scanned.slots.a;
         b = scanned.slots.b;
         is_a = is.is_a;

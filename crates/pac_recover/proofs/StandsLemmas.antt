@@ -10,11 +10,14 @@ use Rattle.pac_outside.specs.Parts.{reads_of}
 use Rattle.pac_outside.specs.declared.devices.Devices.{Devices}
 use Rattle.pac_types.specs.Execution.{serial}
 use Rattle.pac_types.specs.Typing.{CatalogueState}
+use Rattle.pac_outside.specs.declared.devices.LogName.{LogName}
+use Rattle.pac_outside.specs.declared.devices.LogName.TheVariants.{LogB, Log as OfLog}
+use Rattle.pac_log.specs.declared.header.Header.{Header}
+use Rattle.pac_log.specs.declared.header.HeaderForm.TheVariants.{First}
 use Rattle.pac_log.specs.declared.damage.DamageKind.{DamageKind}
-use Rattle.pac_log.specs.Logs.{header_bytes, open_bodies, HoldsLog}
+use Rattle.pac_log.specs.Logs.{HoldsLog, header_with}
 use Rattle.pac_log.specs.Reading.{IsStore}
-use Rattle.pac_log.proofs.GateLemmas.{headed}
-use Rattle.pac_log.proofs.OneLog.{one_log, no_damage}
+use Rattle.pac_log.proofs.OneLog.{one_log}
 use Rattle.pac_check.specs.declared.damage.SlotDamageKind.{SlotDamageKind}
 use Rattle.pac_check.specs.declared.damage.SlotFault.{SlotFault}
 use Rattle.pac_check.specs.declared.head.Head.{Head}
@@ -22,6 +25,7 @@ use Rattle.pac_check.specs.declared.info.SlotName.{SlotName}
 use Rattle.pac_check.specs.declared.info.SlotName.TheVariants.{A, B}
 use Rattle.pac_check.specs.declared.state.SlotState.{SlotState}
 use Rattle.pac_check.specs.declared.state.SlotState.TheVariants.{Open}
+use Rattle.pac_check.specs.Checkpoints.{segment_in}
 use Rattle.pac_check.specs.SlotStates.{by_slot, slot_read}
 use Rattle.pac_store.specs.Images.{Images, IfImagesKnown}
 use Rattle.pac_store.specs.Stands.{EndsWith, StandsFor}
@@ -32,23 +36,13 @@ use Rattle.pac_recover.specs.declared.errors.LoadError.TheVariants as load
 use Rattle.pac_recover.specs.declared.errors.RecoverError.{RecoverError}
 use Rattle.pac_recover.specs.declared.errors.RecoverError.TheVariants as error
 use Rattle.pac_recover.specs.declared.recovery.Recovered.{Recovered}
-use Rattle.pac_recover.specs.Damages.{IsAtGate, IsDamagedLog, IsDamagedSlot, IsMisplacedSlot, IsSlotDamage}
+use Rattle.pac_recover.specs.Damages.{IsAtGate, IsDamagedLog, IsDamagedSlot, IsMisfit, IsMisplacedSlot, IsSlotDamage}
 use Rattle.pac_recover.specs.Limits.{IsFirstOver}
 use Rattle.pac_recover.specs.Refusals.{AreRefused}
 use Rattle.pac_recover.specs.Recovering.{AbortsIn, IsRecoveredPrefix, IsPrefixOverLimit, IsOverIn, IsRecoveredFrom, Recovers}
+use Rattle.pac_recover.proofs.FirstLogLemmas.{log-store, undamaged}
 
 -- ---- no damage
-
--- a log is a store
-store-of : (text : List ℕ) (catalogue : CatalogueState) (batches : List (List Txn)) (image : List ℕ) → HoldsLog text catalogue batches image → IsStore text catalogue image
-store-of text catalogue batches image holds =
-    let first = headed batches holds.shut.gate holds.shut.rest in
-    record {
-      accepted = holds.log.accepted;
-      gate = first.0;
-      rest = first.1;
-      split = holds.shut.split ∙ append_assoc (header_bytes text) (open_bodies batches) (holds.shut.gate ∷ holds.shut.rest) ∙ ap (λ (l : List ℕ). header_bytes text ++ l) first.2;
-    }
 
 ok-err : {X : Type 0} {E : Type 0} (x : X) (e : E) → ◌≡◌ {A = Result X E} (Ok x) (Err e) → ⊥
 ok-err x e h = cc
@@ -63,20 +57,27 @@ module _ (text : List ℕ) (catalogue : CatalogueState) (history : List Txn) (le
   readable-b : IsReadable text catalogue is.batches images.slot_b
   readable-b = readable text catalogue (few-tables text catalogue is.log.log.accepted.has) is.batches images.slot_b is.slot_b
 
-  pub is-store : ((t : List ℕ) (c : CatalogueState) → IsStore t c images.log → ⊥) → ⊥
-  is-store none = none text catalogue (store-of text catalogue is.batches images.log is.log)
+  pub is-store : ((header : Header) (c : CatalogueState) → IsStore header c images.log → ⊥) → ⊥
+  is-store none = none (header_with First text) catalogue (log-store text catalogue is.batches images.log is.log)
 
   pub no-log-damage : (at : ℕ) (kind : DamageKind) → IsDamagedLog at kind images.log → ⊥
-  no-log-damage at kind damaged = no_damage text damaged.text catalogue damaged.catalogue is.batches damaged.batches _ images.log is.log damaged.damage
+  no-log-damage at kind damaged = undamaged text catalogue is.batches at kind images.log is.log damaged
 
   -- the slots fit the log
-  no-misplaced : (slot : SlotName) → IsMisplacedSlot (IsAtGate text is.batches) catalogue.tables slot images.slot_a images.slot_b → ⊥
-  no-misplaced A wrong =
+  fits : (head : Head) (at : ℕ) (kind : SlotDamageKind) → segment_in head.form ≡ OfLog → IsAtGate text is.batches head → IsMisfit (IsAtGate text is.batches) head at kind → ⊥
+  fits head at kind names there (inl (at_25, range, other)) = not-both names other
+    where
+      not-both : {name : LogName} → name ≡ OfLog → name ≡ LogB → ⊥
+      not-both e f = cc
+  fits head at kind names there (inr (at_9, place, named, none)) = none there
+
+  no-misplaced : (slot : SlotName) (at : ℕ) (kind : SlotDamageKind) → IsMisplacedSlot (IsAtGate text is.batches) catalogue.tables slot at kind images.slot_a images.slot_b → ⊥
+  no-misplaced A at kind wrong =
       let prefix = readable-a.prefix wrong.head (same-open readable-a.state wrong.state_a wrong.head (sym readable-a.is ∙ wrong.is_a) wrong.opens) in
-      wrong.misfit prefix.3
-  no-misplaced B wrong =
+      fits wrong.head at kind prefix.3 prefix.4 wrong.misfit
+  no-misplaced B at kind wrong =
       let prefix = readable-b.prefix wrong.head (same-open readable-b.state wrong.state_b wrong.head (sym readable-b.is ∙ wrong.is_b) wrong.opens) in
-      wrong.misfit prefix.3
+      fits wrong.head at kind prefix.3 prefix.4 wrong.misfit
 
   no-broken : (slot : SlotName) (fault : SlotFault) → slot_read catalogue.tables (by_slot slot images.slot_a images.slot_b) ≡ Err fault → ⊥
   no-broken A fault e = ok-err readable-a.state fault (sym readable-a.is ∙ e)
@@ -84,14 +85,14 @@ module _ (text : List ℕ) (catalogue : CatalogueState) (history : List Txn) (le
 
   pub no-slot-damage : (slot : SlotName) (at : ℕ) (kind : SlotDamageKind) → IsDamagedSlot slot at kind images → ⊥
   no-slot-damage slot at kind damaged =
-      let one = one_log text damaged.text catalogue damaged.catalogue is.batches damaged.batches images.log is.log damaged.log in
-      go (subst (λ (t : List ℕ). IsSlotDamage (IsAtGate t is.batches) catalogue.tables slot at kind images.slot_a images.slot_b) (sym one.0)
+      let one = one_log (header_with First text) (header_with First damaged.text) catalogue damaged.catalogue is.batches damaged.batches images.log is.log damaged.log in
+      go (subst (λ (t : List ℕ). IsSlotDamage (IsAtGate t is.batches) catalogue.tables slot at kind images.slot_a images.slot_b) (sym (ap (λ (h : Header). h.text) one.0))
       (subst (λ (c : CatalogueState). IsSlotDamage (IsAtGate damaged.text is.batches) c.tables slot at kind images.slot_a images.slot_b) (sym one.1)
       (subst (λ (b : List (List Txn)). IsSlotDamage (IsAtGate damaged.text b) damaged.catalogue.tables slot at kind images.slot_a images.slot_b) (sym one.2) damaged.damage)))
     where
       go : IsSlotDamage (IsAtGate text is.batches) catalogue.tables slot at kind images.slot_a images.slot_b → ⊥
       go (inl broken) = no-broken slot _ broken.fault_of
-      go (inr (at_9, place, wrong)) = no-misplaced slot wrong
+      go (inr wrong) = no-misplaced slot at kind wrong
 
   -- ---- what is recovered
 

@@ -4,7 +4,8 @@ use Rattle.pac_value.specs.State.{Tables}
 use Rattle.pac_ops.specs.declared.note.Note.{Note}
 use Rattle.pac_ops.specs.declared.transaction.Txn.{Txn}
 use Rattle.pac_types.specs.Typing.{CatalogueState}
-use Rattle.pac_log.specs.Logs.{HoldsLog}
+use Rattle.pac_log.specs.declared.header.HeaderForm.TheVariants.{First}
+use Rattle.pac_log.specs.Logs.{HoldsLog, header_with}
 use Rattle.pac_check.specs.declared.damage.SlotDamageKind.{SlotDamageKind}
 use Rattle.pac_check.specs.declared.info.SlotName.{SlotName}
 use Rattle.pac_check.specs.declared.slots.Slots.{Slots}
@@ -19,7 +20,7 @@ use Rattle.pac_recover.specs.Recovering.{stored_outcome}
 
 -- the image is that of a log with this text and catalogue
 abbrev pub IsWholeLog : List ℕ → CatalogueState → List ℕ → Type 0
-IsWholeLog text catalogue image = (batches : List (List Txn)) × HoldsLog text catalogue batches image
+IsWholeLog text catalogue image = (batches : List (List Txn)) × HoldsLog (header_with First text) catalogue batches image
 
 -- On whatever devices: the reader is at the end of a log of this catalogue, the slots take a save, and the newest has no more
 -- transactions than the log.

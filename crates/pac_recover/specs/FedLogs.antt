@@ -4,11 +4,12 @@ use Rattle.pac_ops.specs.declared.batch.Batch.{Batch}
 use Rattle.pac_ops.specs.declared.transaction.Txn.{Txn}
 use Rattle.pac_outside.specs.Causes.{one_more}
 use Rattle.pac_outside.specs.Disk.{DiskHistory, IfKnown}
+use Rattle.pac_log.specs.declared.header.HeaderForm.TheVariants.{First}
 use Rattle.pac_log.specs.declared.errors.LogError.{LogError}
 use Rattle.pac_log.specs.declared.errors.LogError.TheVariants as error
 use Rattle.pac_log.specs.declared.position.NextGate.{NextGate}
 use Rattle.pac_log.specs.Bodies.{body_bytes}
-use Rattle.pac_log.specs.Logs.{HoldsLog}
+use Rattle.pac_log.specs.Logs.{HoldsLog, header_with}
 use Rattle.pac_log.specs.Places.{IsAfter}
 use Rattle.pac_recover.specs.declared.log_feed.FeedEnd.{FeedEnd}
 use Rattle.pac_recover.specs.declared.log_feed.FeedEnd.TheVariants.{Window, End, Refused}
@@ -18,11 +19,11 @@ use Rattle.pac_recover.specs.Rereading.{IsWindow}
 -- after these batches of a log come those that were given, up to the gate, and then the rest
 pub record IsPartOf (text : List ℕ) (before after rest : List (List Txn)) (given : List Batch) (gate : NextGate) : Type 0 where
   pub split : after ≡ txns_by_batch given ++ rest
-  pub there : IsAfter text (before ++ txns_by_batch given) gate
+  pub there : IsAfter (header_with First text) (before ++ txns_by_batch given) gate
 
 -- this holds of what a disk is known to hold, where that is a log and the gate comes after its batches before
 abbrev pub OfKnownLog : Option DiskHistory → NextGate → (List ℕ → List (List Txn) → List (List Txn) → Type 0) → Type 0
-OfKnownLog known old What = (text : List ℕ) (before after : List (List Txn)) → IfKnown (λ h. HoldsLog text old.catalogue (before ++ after) h.now.seen → IsAfter text before old → What text before after) known
+OfKnownLog known old What = (text : List ℕ) (before after : List (List Txn)) → IfKnown (λ h. HoldsLog (header_with First text) old.catalogue (before ++ after) h.now.seen → IsAfter (header_with First text) before old → What text before after) known
 
 -- how it ended: nothing comes after the last batch, or the disk holds no whole log
 abbrev pub EndsAs : Option DiskHistory → NextGate → NextGate → List Batch → Option FeedEnd → Type 0

@@ -2,9 +2,10 @@
 use Rattle.std.specs.Prelude.{◌≡◌, ◌+◌, ℕ, List, [], ◌∷◌, length, map}
 use Rattle.pac_ops.specs.declared.batch.Batch.{Batch}
 use Rattle.pac_ops.specs.declared.transaction.Txn.{Txn}
+use Rattle.pac_log.specs.declared.header.HeaderForm.TheVariants.{First}
 use Rattle.pac_log.specs.declared.position.NextGate.{NextGate}
 use Rattle.pac_log.specs.Bodies.{body_bytes}
-use Rattle.pac_log.specs.Logs.{log_prefix, all_txns}
+use Rattle.pac_log.specs.Logs.{log_prefix, all_txns, header_with, number_after}
 use Rattle.pac_recover.specs.declared.gates.GatePlace.{GatePlace}
 
 -- the transactions of each batch
@@ -35,7 +36,7 @@ last_gate gate (txns ∷ batches) = last_gate (gate_after_txns gate txns) batche
 
 -- the gate that comes after these batches of a log
 abbrev pub gate_after_batches : List ℕ → List (List Txn) → GatePlace
-gate_after_batches text batches = record { place = length (log_prefix text batches); txns = length (all_txns batches) }
+gate_after_batches text batches = record { place = length (log_prefix (header_with First text) batches); txns = number_after (header_with First text) batches }
 
 -- each batch begins after the transactions of the one before, and the first after that many
 abbrev pub RunOn : ℕ → List Batch → Type 0

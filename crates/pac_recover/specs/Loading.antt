@@ -1,16 +1,20 @@
 -- What a load gives.
-use Rattle.std.specs.Prelude.{◌≡◌, ◌+◌, ℕ, true, false, List, length, map, drop, Option, Some, None}
+use Rattle.std.specs.Prelude.{◌≡◌, ◌⊎◌, ◌+◌, ℕ, true, false, List, length, map, drop, Option, Some, None}
 use Rattle.pac_value.specs.State.{Tables}
 use Rattle.pac_ops.specs.declared.transaction.Txn.{Txn}
 use Rattle.pac_types.specs.Fits.{FitsCatalogue, shape}
 use Rattle.pac_types.specs.Typing.{CatalogueState}
 use Rattle.pac_flat.specs.FlatForm.{program_of}
 use Rattle.pac_plan.specs.Analysis.{IsAnalysis}
-use Rattle.pac_log.specs.Logs.{HoldsLog, all_txns}
+use Rattle.pac_outside.specs.declared.devices.LogName.TheVariants.{Log, LogB}
+use Rattle.pac_log.specs.declared.header.HeaderForm.TheVariants.{First}
+use Rattle.pac_log.specs.Logs.{HoldsLog, all_txns, header_with}
 use Rattle.pac_log.specs.Places.{IsAfter}
+use Rattle.pac_check.specs.declared.damage.SlotDamageKind.{SlotDamageKind}
+use Rattle.pac_check.specs.declared.damage.SlotDamageKind.TheVariants.{Place, Range}
 use Rattle.pac_check.specs.declared.info.SlotInfo.{SlotInfo}
 use Rattle.pac_check.specs.declared.slots.Slots.{Slots}
-use Rattle.pac_check.specs.Checkpoints.{head_with}
+use Rattle.pac_check.specs.Checkpoints.{first_head}
 use Rattle.pac_check.specs.SlotStates.{newest_of, saved_txns, IsSlot}
 use Rattle.pac_store.specs.Images.{Images}
 use Rattle.pac_store.specs.Stored.{AreNewest, IsPlaced, Stored}
@@ -20,10 +24,14 @@ use Rattle.pac_recover.specs.Damages.{IsAmongGates}
 use Rattle.pac_recover.specs.Gates.{txns_in, RunOn}
 use Rattle.pac_recover.specs.Logs.{FitBatches}
 
--- an open slot is at one of these gates
+-- an open slot names the first log device, and is at one of these gates
 abbrev pub IsInfoAmong : List GatePlace → Option SlotInfo → Type 0
 IsInfoAmong gates None = Unit {0}
-IsInfoAmong gates (Some info) = IsAmongGates gates (head_with info.txns info.place)
+IsInfoAmong gates (Some info) = (info.segment ≡ Log) × IsAmongGates gates (first_head info.txns info.place)
+
+-- this is the first fault of an open slot beside these gates: it names the other log device, or else it is at none of them
+abbrev pub IsMisplacedInfo : List GatePlace → SlotInfo → ℕ → SlotDamageKind → Type 0
+IsMisplacedInfo gates info at kind = ((at ≡ 25) × (kind ≡ Range) × (info.segment ≡ LogB)) ⊎ ((at ≡ 9) × (kind ≡ Place) × (info.segment ≡ Log) × (IsAmongGates gates (first_head info.txns info.place) → ⊥))
 
 -- the tables of the newest of two slots
 abbrev pub AreNewestOf : CatalogueState → Slots → Tables → List ℕ → List ℕ → Type 0
@@ -50,8 +58,8 @@ pub record IsLoaded (loaded : Loaded) : Type 0 where
 pub record IsLoadedFrom (loaded : Loaded) (images : Images) : Type 0 where
   pub text : List ℕ
   pub batches : List (List Txn)
-  pub log : HoldsLog text loaded.catalogue batches images.log
-  pub end : IsAfter text batches loaded.reader.gate
+  pub log : HoldsLog (header_with First text) loaded.catalogue batches images.log
+  pub end : IsAfter (header_with First text) batches loaded.reader.gate
   pub is_a : IsSlot loaded.catalogue.tables loaded.slots.a images.slot_a
   pub is_b : IsSlot loaded.catalogue.tables loaded.slots.b images.slot_b
   pub place_a : IsPlaced text batches loaded.slots.a

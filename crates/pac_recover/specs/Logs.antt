@@ -5,8 +5,9 @@ use Rattle.pac_ops.specs.declared.batch.Batch.{Batch}
 use Rattle.pac_ops.specs.declared.transaction.Txn.{Txn}
 use Rattle.pac_types.specs.Fits.{TxnFits}
 use Rattle.pac_types.specs.Typing.{CatalogueState}
+use Rattle.pac_log.specs.declared.header.HeaderForm.TheVariants.{First}
 use Rattle.pac_log.specs.declared.position.NextGate.{NextGate}
-use Rattle.pac_log.specs.Logs.{HoldsLog}
+use Rattle.pac_log.specs.Logs.{HoldsLog, header_with}
 use Rattle.pac_log.specs.Places.{IsAfter}
 use Rattle.pac_log.specs.Reading.{StandsAfter}
 use Rattle.pac_recover.specs.declared.gates.GatePlace.{GatePlace}
@@ -36,19 +37,19 @@ pub record IsWhole (log : WholeLog) : Type 0 where
 
 -- the image holds these batches and no other, and the gate is the one after them
 pub record HoldsBatches (text : List ℕ) (catalogue : CatalogueState) (batches : List Batch) (gate : NextGate) (image : List ℕ) : Type 0 where
-  pub log : HoldsLog text catalogue (txns_by_batch batches) image
-  pub end : IsAfter text (txns_by_batch batches) gate
+  pub log : HoldsLog (header_with First text) catalogue (txns_by_batch batches) image
+  pub end : IsAfter (header_with First text) (txns_by_batch batches) gate
 
 -- the image is that of a log with the gate's catalogue, and the gate is the one after its batches
 pub record HoldsLogUpTo (gate : NextGate) (image : List ℕ) : Type 0 where
   pub text : List ℕ
   pub batches : List (List Txn)
-  pub log : HoldsLog text gate.catalogue batches image
-  pub end : IsAfter text batches gate
+  pub log : HoldsLog (header_with First text) gate.catalogue batches image
+  pub end : IsAfter (header_with First text) batches gate
 
 -- where the first gate is the log's first, the image holds the batches that were read from there on
 abbrev pub ReadsTo : List ℕ → NextGate → NextGate → List Batch → List ℕ → Type 0
-ReadsTo text old new batches image = StandsAfter text [] old image → HoldsBatches text old.catalogue batches new image
+ReadsTo text old new batches image = StandsAfter (header_with First text) [] old image → HoldsBatches text old.catalogue batches new image
 
 -- the image is that of the whole log, and the gates are at their offsets
 pub record HoldsWhole (log : WholeLog) (image : List ℕ) : Type 0 where

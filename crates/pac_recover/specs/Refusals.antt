@@ -3,6 +3,7 @@ use Rattle.std.specs.Prelude.{◌≡◌, ℕ, List, Option}
 use Rattle.pac_outside.specs.Disk.{DiskHistory, IfKnown}
 use Rattle.pac_outside.specs.declared.devices.Devices.{Devices}
 use Rattle.pac_types.specs.Typing.{CatalogueState}
+use Rattle.pac_log.specs.declared.header.Header.{Header}
 use Rattle.pac_log.specs.Reading.{IsStore}
 use Rattle.pac_store.specs.Images.{IfImagesKnown}
 use Rattle.pac_recover.specs.declared.errors.Damage.{Damage}
@@ -15,7 +16,7 @@ use Rattle.pac_recover.specs.Recovering.{AbortsIn, IsOverIn}
 
 -- the log's device holds no log, where that is known
 abbrev pub HasNoStore : Devices (Option DiskHistory) → Type 0
-HasNoStore devices = IfKnown (λ known. (text : List ℕ) (catalogue : CatalogueState) → ¬ IsStore text catalogue known.now.seen) devices.log
+HasNoStore devices = IfKnown (λ known. (header : Header) (catalogue : CatalogueState) → ¬ IsStore header catalogue known.now.seen) devices.log
 
 -- this is the first damage of the devices, where they are known
 abbrev pub HasDamage : Damage → Devices (Option DiskHistory) → Type 0

@@ -5,8 +5,9 @@ use Rattle.pac_types.specs.Fits.{FitsCatalogue, shape}
 use Rattle.pac_flat.specs.Agreement.{ReplaysTheSame}
 use Rattle.pac_flat.specs.FlatForm.{program_of}
 use Rattle.pac_plan.specs.Analysis.{IsAnalysis}
+use Rattle.pac_log.specs.declared.header.HeaderForm.TheVariants.{First}
 use Rattle.pac_log.specs.declared.position.NextGate.{NextGate}
-use Rattle.pac_log.specs.Logs.{HasGate, HoldsLog, all_txns}
+use Rattle.pac_log.specs.Logs.{HasGate, HoldsLog, all_txns, header_with}
 use Rattle.pac_log.specs.Readers.{at_first}
 use Rattle.pac_log.specs.Reading.{StandsAfter}
 use Rattle.pac_check.specs.declared.info.SlotInfo.{SlotInfo}
@@ -19,14 +20,14 @@ use Rattle.pac_recover.specs.declared.scanning.Scanned.{Scanned}
 pub record HoldsLogFrom (gate : NextGate) (total : ℕ) (image : List ℕ) : Type 0 where
   pub text : List ℕ
   pub batches : List (List Txn)
-  pub log : HoldsLog text gate.catalogue batches image
-  pub start : StandsAfter text [] gate image
+  pub log : HoldsLog (header_with First text) gate.catalogue batches image
+  pub start : StandsAfter (header_with First text) [] gate image
   pub counted : total ≡ length (all_txns batches)
 
 -- an open slot is at a gate of the log, with as many transactions before it
 abbrev pub IsAtGateOf : List ℕ → List (List Txn) → Option SlotInfo → Type 0
 IsAtGateOf text batches None = Unit {0}
-IsAtGateOf text batches (Some info) = HasGate text batches info.place info.txns
+IsAtGateOf text batches (Some info) = HasGate (header_with First text) batches info.place info.txns
 
 -- What is scanned, on whatever devices: the plan is that of the catalogue, of its flat programs, which replay as its
 -- procedures execute; the tables fit it, and have the number of the newest slot, which isn't above the log's; the reader is at

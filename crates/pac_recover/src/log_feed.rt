@@ -4,6 +4,7 @@ ghost use Rattle.pac_ops.specs.declared.batch.Batch.{Batch as ABatch};
 ghost use Rattle.pac_outside.specs.Disk.{DiskHistory};
 ghost use Rattle.pac_types.specs.Fits.{TxnFits, shape};
 ghost use Rattle.pac_flat.specs.FlatForm.{program_of};
+ghost use Rattle.pac_log.specs.declared.limits.TheConstants.{MAX_BASE};
 ghost use Rattle.pac_log.specs.declared.position.NextGate.{NextGate as ANextGate};
 ghost use Rattle.pac_log.specs.Bodies.{body_bytes};
 ghost use Rattle.pac_recover.specs.declared.log_feed.FeedEnd.{FeedEnd as AFeedEnd};
@@ -98,7 +99,7 @@ impl<'r, 'd, 'l, D: Disk> Feed for LogFeed<'r, 'd, 'l, D> {
 
     ghost is_over = { λ feed. is_some feed.end };
 
-    ghost room = { λ feed. 2 ^ 63 - feed.reader.now.gate.txns };
+    ghost room = { λ feed. (MAX_BASE + 2 ^ 63) - feed.reader.now.gate.txns };
 
     ghost next_txn = { λ feed. feed.reader.now.gate.txns + 1 };
 
@@ -146,7 +147,7 @@ fn read<D: Disk>(reader: &mut LogReader, disk: &mut D) -> Result<Batch, FeedEnd>
     ensures next { IfOk result (λ batch. reader.new.gate.txns + 1 ≡ batch.first + length batch.txns) }
     ensures some { IfOk result (λ batch. 1 ≤ length batch.txns) }
     ensures place { IfOk result (λ batch. reader.new.gate.place ≡ reader.old.gate.place + (1 + length (body_bytes batch.txns))) }
-    ensures few { IfOk result (λ batch. reader.new.gate.txns ≤ 2 ^ 63) }
+    ensures few { IfOk result (λ batch. reader.new.gate.txns ≤ MAX_BASE + 2 ^ 63) }
     ensures fits { IfOk result (λ batch. All (TxnFits reader.old.gate.catalogue) batch.txns) }
 {
     match reader.next_batch(disk) {

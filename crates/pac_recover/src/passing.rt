@@ -3,6 +3,9 @@ ghost use Rattle.std.specs.Prelude.{◌≡◌, [], ℕ, List, true, IfOk, IsErrO
 ghost use Rattle.pac_outside.specs.Causes.{one_more};
 ghost use Rattle.pac_outside.specs.Disk.{IfKnown};
 ghost use Rattle.pac_types.specs.Typing.{CatalogueState};
+ghost use Rattle.pac_log.specs.Logs.{header_with};
+ghost use Rattle.pac_log.specs.declared.header.HeaderForm.TheVariants.{First};
+ghost use Rattle.pac_log.specs.declared.header.Header.{Header as AHeader};
 ghost use Rattle.pac_log.specs.declared.damage.DamageKind.{DamageKind as ADamageKind};
 ghost use Rattle.pac_log.specs.Readers.{at_first};
 ghost use Rattle.pac_log.specs.Reading.{IsStore, StandsAfter};
@@ -10,7 +13,7 @@ ghost use Rattle.pac_recover.specs.Damages.{IsDamagedLog};
 ghost use Rattle.pac_recover.specs.Passing.{AreAtMost, EndsAtGates, HoldsGates, IsReadThrough};
 
 use crate::gates::{GatePlace, gate_place};
-use crate::log::push;
+use crate::log::{attach_first, push};
 use pac_log::{LogError, LogReader};
 use pac_outside::Disk;
 use std::alloc::Global;
@@ -28,17 +31,17 @@ pub(crate) struct PassedLog {
 ///
 /// # Errors
 ///
-/// Those of [`LogReader::attach`] and [`LogReader::next_batch`].
+/// Those of [`attach_first`] and [`LogReader::next_batch`].
 pub(crate) fn pass_log<D: Disk>(alloc: Global, disk: &mut D) -> Result<PassedLog, LogError>
     ensures passed { IfOk result IsReadThrough }
     ensures holds { IfOk result (λ log. IfKnown (λ old. HoldsGates log old.now.seen) (D.known disk.old)) }
-    ensures no_store { IsErrOf result LogError.NoStore → IfKnown (λ old. (text : List ℕ) (catalogue : CatalogueState) → ¬ IsStore text catalogue old.now.seen) (D.known disk.old) }
+    ensures no_store { IsErrOf result LogError.NoStore → IfKnown (λ old. (header : AHeader) (catalogue : CatalogueState) → ¬ IsStore header catalogue old.now.seen) (D.known disk.old) }
     ensures damaged { (at : ℕ) (kind : ADamageKind) → IsErrOf result (LogError.Damaged at kind) → IfKnown (λ old. IsDamagedLog at kind old.now.seen) (D.known disk.old) }
     ensures same { D.known disk.new ≡ D.known disk.old }
     ensures counted { IsErrOf result LogError.DiskFault → D.faults disk.new ≡ one_more (D.faults disk.old) }
     ensures kept { ¬ IsErrOf result LogError.DiskFault → D.faults disk.new ≡ D.faults disk.old }
 {
-    let mut reader = LogReader::attach(alloc, disk)?;
+    let mut reader = attach_first(alloc, disk)?;
     let gates = pass_gates(alloc, &mut reader, disk)?;
     Ok(PassedLog { reader, gates })
 }
@@ -51,8 +54,8 @@ fn pass_gates<D: Disk>(
 ) -> Result<Vec<GatePlace>, LogError>
     ensures first { IfOk result (λ _. at_first reader.new ≡ at_first reader.old) }
     ensures few { IfOk result (λ gates. AreAtMost reader.new.gate.txns gates.items) }
-    ensures end { IfOk result (λ gates. (text : List ℕ) → IfKnown (λ old. StandsAfter text [] reader.old.gate old.now.seen → EndsAtGates text reader.new.gate gates.items old.now.seen) (D.known disk.old)) }
-    ensures damaged { (at : ℕ) (kind : ADamageKind) → IsErrOf result (LogError.Damaged at kind) → (text : List ℕ) → IfKnown (λ old. StandsAfter text [] reader.old.gate old.now.seen → IsDamagedLog at kind old.now.seen) (D.known disk.old) }
+    ensures end { IfOk result (λ gates. (text : List ℕ) → IfKnown (λ old. StandsAfter (header_with First text) [] reader.old.gate old.now.seen → EndsAtGates text reader.new.gate gates.items old.now.seen) (D.known disk.old)) }
+    ensures damaged { (at : ℕ) (kind : ADamageKind) → IsErrOf result (LogError.Damaged at kind) → (text : List ℕ) → IfKnown (λ old. StandsAfter (header_with First text) [] reader.old.gate old.now.seen → IsDamagedLog at kind old.now.seen) (D.known disk.old) }
     ensures known { ¬ IsErrOf result LogError.NoStore }
     ensures same { D.known disk.new ≡ D.known disk.old }
     ensures counted { IsErrOf result LogError.DiskFault → D.faults disk.new ≡ one_more (D.faults disk.old) }
@@ -68,6 +71,6 @@ fn pass_gates<D: Disk>(
             }
         }
     }
-    let _few = reader.gate().txns(); // at most 2^63, and each batch has one
+    let _few = reader.gate().txns(); // below 2^64, and each batch has one
     unreachable!()
 }

@@ -64,7 +64,7 @@ pub(crate) fn replay_rest<D: Disk, T: TableRows, X: Executor>(
             }
         }
     }
-    let _few = reader.gate().txns(); // at most 2^63, and each batch has one
+    let _few = reader.gate().txns(); // below 2^64, and each batch has one
     unreachable!()
 }
 

@@ -4,6 +4,8 @@ ghost use Rattle.pac_outside.specs.Causes.{one_more};
 ghost use Rattle.pac_outside.specs.Disk.{IfKnown};
 ghost use Rattle.pac_types.specs.Fits.{FitsCatalogue};
 ghost use Rattle.pac_types.specs.OperationLimits.{HasFewOperations};
+ghost use Rattle.pac_log.specs.Logs.{header_with};
+ghost use Rattle.pac_log.specs.declared.header.HeaderForm.TheVariants.{First};
 ghost use Rattle.pac_log.specs.declared.damage.DamageKind.{DamageKind as ALogDamage};
 ghost use Rattle.pac_log.specs.Reading.{StandsAfter};
 ghost use Rattle.pac_check.specs.SlotStates.{saved_txns};
@@ -55,9 +57,9 @@ pub(crate) fn replay_log<D: Disk, T: TableRows, X: Executor>(
     ensures end { IfOk result (λ _. reader.new.is_at_end ≡ true) }
     ensures catalogue { IfOk result (λ _. reader.new.gate.catalogue ≡ reader.old.gate.catalogue) }
     ensures number { IfOk result (λ log. IsInfoAmong log.gates.items newest → saved_txns newest ≤ reader.new.gate.txns) }
-    ensures replayed { IfOk result (λ log. (text : List ℕ) → IfKnown (λ old. StandsAfter text [] reader.old.gate old.now.seen
+    ensures replayed { IfOk result (λ log. (text : List ℕ) → IfKnown (λ old. StandsAfter (header_with First text) [] reader.old.gate old.now.seen
         → IsReplayOf text cat.now newest tables.rows reader.new.gate log.replayed log.gates.items old.now.seen) (D.known disk.old)) }
-    ensures damaged { (at : ℕ) (kind : ALogDamage) → IsErrOf result (LogError.Damaged at kind) → (text : List ℕ) → IfKnown (λ old. StandsAfter text [] reader.old.gate old.now.seen → IsDamagedLog at kind old.now.seen) (D.known disk.old) }
+    ensures damaged { (at : ℕ) (kind : ALogDamage) → IsErrOf result (LogError.Damaged at kind) → (text : List ℕ) → IfKnown (λ old. StandsAfter (header_with First text) [] reader.old.gate old.now.seen → IsDamagedLog at kind old.now.seen) (D.known disk.old) }
     ensures known { ¬ IsErrOf result LogError.NoStore }
     ensures same { D.known disk.new ≡ D.known disk.old }
     ensures counted { IsErrOf result LogError.DiskFault → D.faults disk.new ≡ one_more (D.faults disk.old) }
@@ -85,9 +87,9 @@ fn replay_whole<D: Disk, T: TableRows, X: Executor>(
     ensures end { IfOk result (λ _. reader.new.is_at_end ≡ true) }
     ensures catalogue { IfOk result (λ _. reader.new.gate.catalogue ≡ reader.old.gate.catalogue) }
     ensures number { IfOk result (λ log. IsInfoAmong log.gates.items NoInfo → saved_txns NoInfo ≤ reader.new.gate.txns) }
-    ensures replayed { IfOk result (λ log. (text : List ℕ) → IfKnown (λ old. StandsAfter text [] reader.old.gate old.now.seen
+    ensures replayed { IfOk result (λ log. (text : List ℕ) → IfKnown (λ old. StandsAfter (header_with First text) [] reader.old.gate old.now.seen
         → IsReplayOf text cat.now NoInfo tables.rows reader.new.gate log.replayed log.gates.items old.now.seen) (D.known disk.old)) }
-    ensures damaged { (at : ℕ) (kind : ALogDamage) → IsErrOf result (LogError.Damaged at kind) → (text : List ℕ) → IfKnown (λ old. StandsAfter text [] reader.old.gate old.now.seen → IsDamagedLog at kind old.now.seen) (D.known disk.old) }
+    ensures damaged { (at : ℕ) (kind : ALogDamage) → IsErrOf result (LogError.Damaged at kind) → (text : List ℕ) → IfKnown (λ old. StandsAfter (header_with First text) [] reader.old.gate old.now.seen → IsDamagedLog at kind old.now.seen) (D.known disk.old) }
     ensures known { ¬ IsErrOf result LogError.NoStore }
     ensures same { D.known disk.new ≡ D.known disk.old }
     ensures counted { IsErrOf result LogError.DiskFault → D.faults disk.new ≡ one_more (D.faults disk.old) }
@@ -116,9 +118,9 @@ fn replay_from<D: Disk, T: TableRows, X: Executor>(
     ensures end { IfOk result (λ _. reader.new.is_at_end ≡ true) }
     ensures catalogue { IfOk result (λ _. reader.new.gate.catalogue ≡ reader.old.gate.catalogue) }
     ensures number { IfOk result (λ log. IsInfoAmong log.gates.items (HasInfo info) → saved_txns (HasInfo info) ≤ reader.new.gate.txns) }
-    ensures replayed { IfOk result (λ log. (text : List ℕ) → IfKnown (λ old. StandsAfter text [] reader.old.gate old.now.seen
+    ensures replayed { IfOk result (λ log. (text : List ℕ) → IfKnown (λ old. StandsAfter (header_with First text) [] reader.old.gate old.now.seen
         → IsReplayOf text cat.now (HasInfo info) tables.rows reader.new.gate log.replayed log.gates.items old.now.seen) (D.known disk.old)) }
-    ensures damaged { (at : ℕ) (kind : ALogDamage) → IsErrOf result (LogError.Damaged at kind) → (text : List ℕ) → IfKnown (λ old. StandsAfter text [] reader.old.gate old.now.seen → IsDamagedLog at kind old.now.seen) (D.known disk.old) }
+    ensures damaged { (at : ℕ) (kind : ALogDamage) → IsErrOf result (LogError.Damaged at kind) → (text : List ℕ) → IfKnown (λ old. StandsAfter (header_with First text) [] reader.old.gate old.now.seen → IsDamagedLog at kind old.now.seen) (D.known disk.old) }
     ensures known { ¬ IsErrOf result LogError.NoStore }
     ensures same { D.known disk.new ≡ D.known disk.old }
     ensures counted { IsErrOf result LogError.DiskFault → D.faults disk.new ≡ one_more (D.faults disk.old) }

@@ -7,8 +7,9 @@ ghost use Rattle.pac_types.specs.Execution.{serial};
 ghost use Rattle.pac_types.specs.Fits.{FitsCatalogue, shape};
 ghost use Rattle.pac_flat.specs.Agreement.{ReplaysTheSame};
 ghost use Rattle.pac_flat.specs.FlatForm.{program_of};
+ghost use Rattle.pac_log.specs.declared.header.HeaderForm.TheVariants.{First};
 ghost use Rattle.pac_log.specs.declared.damage.DamageKind.{DamageKind as ALogDamage};
-ghost use Rattle.pac_log.specs.Logs.{HoldsLog, all_txns};
+ghost use Rattle.pac_log.specs.Logs.{HoldsLog, all_txns, header_with};
 ghost use Rattle.pac_log.specs.Places.{IsAfter};
 ghost use Rattle.pac_check.specs.declared.damage.SlotDamageKind.{SlotDamageKind as ASlotDamage};
 ghost use Rattle.pac_check.specs.declared.info.SlotName.{SlotName as ASlotName};
@@ -133,10 +134,10 @@ fn replay_windows<D: Disk, T: TableRows + Send, H: Threads + Wait + Sync, G: Gat
     requires same { reader.old.gate.catalogue ≡ cat.now }
     requires fits { FitsCatalogue cat.now tables.tables tables.rows }
     ensures fits { IfOk result (λ executed. FitsReplayed cat.now executed) }
-    ensures outcome { IfOk result (λ executed. (text : List ℕ) (before after : List (List ATxn)) → IfKnown (λ old. HoldsLog text cat.now (before ++ after) old.now.seen → IsAfter text before reader.old.gate
+    ensures outcome { IfOk result (λ executed. (text : List ℕ) (before after : List (List ATxn)) → IfKnown (λ old. HoldsLog (header_with First text) cat.now (before ++ after) old.now.seen → IsAfter (header_with First text) before reader.old.gate
         → outcome_of executed ≡ serial cat.now.procs (reader.old.gate.txns + 1) (all_txns after) tables.rows) (D.known disk.old)) }
     ensures log_damage { (at : ℕ) (kind : ALogDamage) → IsErrOf result (LoadError.Damaged (InLog at kind)) → (text : List ℕ) (before after : List (List ATxn))
-        → IfKnown (λ old. HoldsLog text cat.now (before ++ after) old.now.seen → ¬ IsAfter text before reader.old.gate) (D.known disk.old) }
+        → IfKnown (λ old. HoldsLog (header_with First text) cat.now (before ++ after) old.now.seen → ¬ IsAfter (header_with First text) before reader.old.gate) (D.known disk.old) }
     ensures slot_damage { (slot : ASlotName) (at : ℕ) (kind : ASlotDamage) → ¬ IsErrOf result (LoadError.Damaged (InSlot slot at kind)) }
     ensures no_store { ¬ IsErrOf result LoadError.NoStore }
     ensures same { D.known disk.new ≡ D.known disk.old }
@@ -155,6 +156,6 @@ fn replay_windows<D: Disk, T: TableRows + Send, H: Threads + Wait + Sync, G: Gat
             Execution::Aborted(note) => return Ok(Execution::Aborted(note)),
         };
     }
-    let _few = reader.gate().txns(); // at most 2^63, and each window has one
+    let _few = reader.gate().txns(); // below 2^64, and each window has one
     unreachable!()
 }

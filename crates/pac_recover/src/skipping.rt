@@ -2,6 +2,8 @@
 ghost use Rattle.std.specs.Prelude.{◌≡◌, [], true, false, ℕ, List, IfOk, IsErrOf};
 ghost use Rattle.pac_outside.specs.Causes.{one_more};
 ghost use Rattle.pac_outside.specs.Disk.{IfKnown};
+ghost use Rattle.pac_log.specs.Logs.{header_with};
+ghost use Rattle.pac_log.specs.declared.header.HeaderForm.TheVariants.{First};
 ghost use Rattle.pac_log.specs.declared.damage.DamageKind.{DamageKind as ADamageKind};
 ghost use Rattle.pac_log.specs.Reading.{StandsAfter};
 ghost use Rattle.pac_recover.specs.Damages.{IsDamagedLog};
@@ -27,10 +29,10 @@ pub(crate) fn skip_to<D: Disk>(
     disk: &mut D,
 ) -> Result<(bool, Vec<GatePlace>), LogError>
     ensures catalogue { IfOk result (λ _. reader.new.gate.catalogue ≡ reader.old.gate.catalogue) }
-    ensures skipped { IfOk result (λ skipped. (text : List ℕ) → IfKnown (λ old. StandsAfter text [] reader.old.gate old.now.seen → HasSkipped text wanted skipped.0 reader.new.gate skipped.1.items old.now.seen) (D.known disk.old)) }
+    ensures skipped { IfOk result (λ skipped. (text : List ℕ) → IfKnown (λ old. StandsAfter (header_with First text) [] reader.old.gate old.now.seen → HasSkipped text wanted skipped.0 reader.new.gate skipped.1.items old.now.seen) (D.known disk.old)) }
     ensures there { IfOk result (λ skipped. skipped.0 ≡ true → place_of reader.new.gate ≡ wanted) }
     ensures absent { IfOk result (λ skipped. skipped.0 ≡ false → IsNone skipped.1.items wanted × (reader.new.is_at_end ≡ true)) }
-    ensures damaged { (at : ℕ) (kind : ADamageKind) → IsErrOf result (LogError.Damaged at kind) → (text : List ℕ) → IfKnown (λ old. StandsAfter text [] reader.old.gate old.now.seen → IsDamagedLog at kind old.now.seen) (D.known disk.old) }
+    ensures damaged { (at : ℕ) (kind : ADamageKind) → IsErrOf result (LogError.Damaged at kind) → (text : List ℕ) → IfKnown (λ old. StandsAfter (header_with First text) [] reader.old.gate old.now.seen → IsDamagedLog at kind old.now.seen) (D.known disk.old) }
     ensures known { ¬ IsErrOf result LogError.NoStore }
     ensures same { D.known disk.new ≡ D.known disk.old }
     ensures counted { IsErrOf result LogError.DiskFault → D.faults disk.new ≡ one_more (D.faults disk.old) }
@@ -50,6 +52,6 @@ pub(crate) fn skip_to<D: Disk>(
             }
         }
     }
-    let _few = reader.gate().txns(); // at most 2^63, and each batch has one
+    let _few = reader.gate().txns(); // below 2^64, and each batch has one
     unreachable!()
 }

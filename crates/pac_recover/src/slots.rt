@@ -13,25 +13,27 @@ ghost use Rattle.pac_recover.specs.declared.errors.Damage.TheVariants.{Log as In
 ghost use Rattle.pac_recover.specs.declared.errors.LoadError.{LoadError as ALoadError};
 ghost use Rattle.pac_recover.specs.Damages.{IsAmongGates, IsBrokenSlot, IsSlotDamage};
 ghost use Rattle.pac_check.specs.Kinds.{slot_fault};
-ghost use Rattle.pac_recover.specs.Loading.{AreNewestOf, IsInfoAmong};
+ghost use Rattle.pac_recover.specs.Loading.{AreNewestOf, IsInfoAmong, IsMisplacedInfo};
 
 use crate::gates::{GatePlace, number_of};
 use crate::{Damage, LoadError};
 use pac_check::{SlotDamageKind, SlotInfo, SlotName, Slots};
-use pac_outside::Disk;
+use pac_outside::{Disk, LogName};
 use pac_serial::no_rows;
 use pac_tables::{JoinedRows, TableRows};
 use pac_types::Catalogue;
 use std::alloc::Global;
 
-// Where the number of transactions and the offset stand in a slot.
+// Where the number of transactions and the offset stand in a slot, and where the segment of the log.
 const PLACE: u64 = 9;
+
+const SEGMENT: u64 = 25;
 
 /// What stands in two slots, each open one of which is at one of these gates.
 ///
 /// # Errors
 ///
-/// Those of [`Slots::attach`], and then `Place`, of slot a before slot b.
+/// Those of [`Slots::read`], and then those of [`test_place`], of slot a before slot b.
 pub(crate) fn read_slots<D: Disk>(
     alloc: Global,
     cat: &Catalogue,
@@ -54,28 +56,42 @@ pub(crate) fn read_slots<D: Disk>(
     ensures quiet_a { ¬ IsErrOf result LoadError.DiskFault → D.faults a.new ≡ D.faults a.old }
     ensures quiet_b { ¬ IsErrOf result LoadError.DiskFault → D.faults b.new ≡ D.faults b.old }
 {
-    let slots = Slots::attach(alloc, cat, a, b)?;
+    let slots = Slots::read(alloc, cat, a, b)?;
     test_place(gates, slots.info(SlotName::A))?;
     test_place(gates, slots.info(SlotName::B))?;
     Ok(slots)
 }
 
-/// That an open slot is at one of these gates.
+/// That an open slot names the first log device, and is at one of these gates.
 ///
 /// # Errors
 ///
-/// `Place`, of that slot.
+/// `Range` at the segment, or else `Place`, of that slot.
 pub(crate) fn test_place(gates: &[GatePlace], info: Option<SlotInfo>) -> Result<(), LoadError>
     ensures ok { OnOk result (IsInfoAmong gates.now info) }
-    ensures err { (error : ALoadError) → IsErrOf result error → (found : ASlotInfo) × (info ≡ HasInfo found) × (error ≡ LoadError.Damaged (InSlot found.slot 9 SlotDamageKind.Place)) × ¬ IsInfoAmong gates.now info }
+    ensures err { (error : ALoadError) → IsErrOf result error → (found : ASlotInfo) × (at : ℕ) × (kind : ASlotDamage) × (info ≡ HasInfo found) × (error ≡ LoadError.Damaged (InSlot found.slot at kind)) × IsMisplacedInfo gates.now found at kind }
 {
     let Some(info) = info else {
         return Ok(());
     };
-    match number_of(gates, place_in(&info)) {
-        Some(_) => Ok(()),
-        None => Err(misplaced(&info)),
+    match info.segment {
+        LogName::LogB => Err(of_other_log(&info)),
+        LogName::Log => match number_of(gates, place_in(&info)) {
+            Some(_) => Ok(()),
+            None => Err(misplaced(&info)),
+        },
     }
+}
+
+// That a slot names the other log device.
+fn of_other_log(info: &SlotInfo) -> LoadError
+    ensures { result ≡ LoadError.Damaged (InSlot info.now.slot 25 SlotDamageKind.Range) }
+{
+    LoadError::Damaged(Damage::Slot {
+        slot: info.slot,
+        at: SEGMENT,
+        kind: SlotDamageKind::Range,
+    })
 }
 
 /// That a slot is at no gate of the log.
@@ -156,7 +172,7 @@ pub(crate) struct Newest<T: TableRows> {
 ///
 /// # Errors
 ///
-/// Those of [`Slots::attach`] and [`Slots::load_newest`].
+/// Those of [`Slots::read`] and [`Slots::load_newest`].
 pub(crate) fn read_newest<D: Disk, T: TableRows>(
     alloc: Global,
     cat: &Catalogue,
@@ -178,7 +194,7 @@ pub(crate) fn read_newest<D: Disk, T: TableRows>(
     ensures quiet_a { ¬ IsErrOf result LoadError.DiskFault → D.faults a.new ≡ D.faults a.old }
     ensures quiet_b { ¬ IsErrOf result LoadError.DiskFault → D.faults b.new ≡ D.faults b.old }
 {
-    let slots = Slots::attach(alloc, cat, a, b)?;
+    let slots = Slots::read(alloc, cat, a, b)?;
     let tables = read_tables(alloc, cat, &slots, a, b)?;
     Ok(Newest { slots, tables })
 }

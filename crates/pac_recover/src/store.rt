@@ -4,6 +4,8 @@ ghost use Rattle.pac_outside.specs.Causes.{one_more};
 ghost use Rattle.pac_outside.specs.Devices.{OneFaulted, each};
 ghost use Rattle.pac_outside.specs.Disk.{IfKnown};
 ghost use Rattle.pac_types.specs.Fits.{FitsCatalogue};
+ghost use Rattle.pac_log.specs.Logs.{header_with};
+ghost use Rattle.pac_log.specs.declared.header.HeaderForm.TheVariants.{First};
 ghost use Rattle.pac_log.specs.declared.damage.DamageKind.{DamageKind as ALogDamage};
 ghost use Rattle.pac_log.specs.Reading.{StandsAfter};
 ghost use Rattle.pac_check.specs.declared.damage.SlotDamageKind.{SlotDamageKind as ASlotDamage};
@@ -17,7 +19,7 @@ ghost use Rattle.pac_recover.specs.Refusals.{HasDamage, HasNoStore};
 ghost use Rattle.pac_recover.specs.Logs.{HoldsLogUpTo};
 ghost use Rattle.pac_recover.specs.Ends.{IsEnded, EndsBeside, EndedSo, IsDamagedBeside, IsWholeLog};
 
-use crate::log::read_batches;
+use crate::log::{attach_first, read_batches};
 use crate::replayed_log::replay_log;
 use crate::slots::{Newest, read_newest, test_place};
 use crate::{Damage, Execution, Executor, LoadError};
@@ -62,7 +64,7 @@ pub(crate) fn replay_store<D: Disk, T: TableRows, X: Executor>(
     ensures disk_fault { IsErrOf result LoadError.DiskFault → OneFaulted (each D.faults devices.old) (each D.faults devices.new) }
     ensures quiet { ¬ IsErrOf result LoadError.DiskFault → each D.faults devices.new ≡ each D.faults devices.old }
 {
-    let reader = LogReader::attach(alloc, &mut devices.log)?;
+    let reader = attach_first(alloc, &mut devices.log)?;
     let catalogue = reader.gate().catalogue().copy(alloc)?;
     match read_newest(alloc, &catalogue, &mut devices.slot_a, &mut devices.slot_b) {
         Ok(newest) => { replay_after(alloc, executor, catalogue, newest, reader, &mut devices.log) }
@@ -81,9 +83,9 @@ fn first_damage<D: Disk>(
     disk: &mut D,
 ) -> LoadError
     requires slot { (at : ℕ) (kind : ALogDamage) → ¬ (damage ≡ InLog at kind) }
-    ensures log_damage { (at : ℕ) (kind : ALogDamage) → result ≡ LoadError.Damaged (InLog at kind) → (text : List ℕ) → IfKnown (λ old. StandsAfter text [] reader.gate old.now.seen → IsDamagedLog at kind old.now.seen) (D.known disk.old) }
+    ensures log_damage { (at : ℕ) (kind : ALogDamage) → result ≡ LoadError.Damaged (InLog at kind) → (text : List ℕ) → IfKnown (λ old. StandsAfter (header_with First text) [] reader.gate old.now.seen → IsDamagedLog at kind old.now.seen) (D.known disk.old) }
     ensures slot_damage { (slot : ASlotName) (at : ℕ) (kind : ASlotDamage) → result ≡ LoadError.Damaged (InSlot slot at kind) → damage ≡ InSlot slot at kind }
-    ensures whole { (slot : ASlotName) (at : ℕ) (kind : ASlotDamage) → result ≡ LoadError.Damaged (InSlot slot at kind) → (text : List ℕ) → IfKnown (λ old. StandsAfter text [] reader.gate old.now.seen → IsWholeLog text reader.gate.catalogue old.now.seen) (D.known disk.old) }
+    ensures whole { (slot : ASlotName) (at : ℕ) (kind : ASlotDamage) → result ≡ LoadError.Damaged (InSlot slot at kind) → (text : List ℕ) → IfKnown (λ old. StandsAfter (header_with First text) [] reader.gate old.now.seen → IsWholeLog text reader.gate.catalogue old.now.seen) (D.known disk.old) }
     ensures no_store { ¬ (result ≡ LoadError.NoStore) }
     ensures same { D.known disk.new ≡ D.known disk.old }
     ensures counted { result ≡ LoadError.DiskFault → D.faults disk.new ≡ one_more (D.faults disk.old) }
@@ -113,12 +115,12 @@ fn replay_after<D: Disk, T: TableRows, X: Executor>(
     ensures ended { IfOk result IsEnded }
     ensures catalogue { IfOk result (λ ended. ended.catalogue ≡ catalogue) }
     ensures slots { IfOk result (λ ended. ended.slots ≡ newest.slots) }
-    ensures log { IfOk result (λ ended. (text : List ℕ) → IfKnown (λ old. StandsAfter text [] reader.gate old.now.seen → HoldsLogUpTo ended.reader.gate old.now.seen) (D.known disk.old)) }
-    ensures ends { IfOk result (λ ended. (text a b : List ℕ) → IfKnown (λ old. StandsAfter text [] reader.gate old.now.seen → EndsBeside catalogue newest.slots newest.tables.rows ended old.now.seen a b) (D.known disk.old)) }
+    ensures log { IfOk result (λ ended. (text : List ℕ) → IfKnown (λ old. StandsAfter (header_with First text) [] reader.gate old.now.seen → HoldsLogUpTo ended.reader.gate old.now.seen) (D.known disk.old)) }
+    ensures ends { IfOk result (λ ended. (text a b : List ℕ) → IfKnown (λ old. StandsAfter (header_with First text) [] reader.gate old.now.seen → EndsBeside catalogue newest.slots newest.tables.rows ended old.now.seen a b) (D.known disk.old)) }
     ensures rows { IfOk result (λ ended. FitsReplayed ended.catalogue ended.replayed) }
-    ensures log_damage { (at : ℕ) (kind : ALogDamage) → IsErrOf result (LoadError.Damaged (InLog at kind)) → (text : List ℕ) → IfKnown (λ old. StandsAfter text [] reader.gate old.now.seen → IsDamagedLog at kind old.now.seen) (D.known disk.old) }
+    ensures log_damage { (at : ℕ) (kind : ALogDamage) → IsErrOf result (LoadError.Damaged (InLog at kind)) → (text : List ℕ) → IfKnown (λ old. StandsAfter (header_with First text) [] reader.gate old.now.seen → IsDamagedLog at kind old.now.seen) (D.known disk.old) }
     ensures slot_damage { (slot : ASlotName) (at : ℕ) (kind : ASlotDamage) → IsErrOf result (LoadError.Damaged (InSlot slot at kind)) → (text a b : List ℕ)
-        → IfKnown (λ old. StandsAfter text [] reader.gate old.now.seen → IsDamagedBeside catalogue newest.slots slot at kind old.now.seen a b) (D.known disk.old) }
+        → IfKnown (λ old. StandsAfter (header_with First text) [] reader.gate old.now.seen → IsDamagedBeside catalogue newest.slots slot at kind old.now.seen a b) (D.known disk.old) }
     ensures no_store { ¬ IsErrOf result LoadError.NoStore }
     ensures same { D.known disk.new ≡ D.known disk.old }
     ensures counted { IsErrOf result LoadError.DiskFault → D.faults disk.new ≡ one_more (D.faults disk.old) }

@@ -4,7 +4,7 @@ use crate::ends::{hold, outcome_of};
 use crate::takes::{AFTER_THREE, THREE};
 use pac_base::NoMemory;
 use pac_core::Core;
-use pac_outside::Gate;
+use pac_ops::Gate;
 use pac_script::BANK;
 use pac_tables::Rows;
 use pac_worker_tests::gates::Logging;

@@ -6,7 +6,8 @@ use Rattle.pac_outside.specs.Parts.{reads_of}
 use Rattle.pac_outside.specs.declared.devices.Devices.{Devices}
 use Rattle.pac_types.specs.Typing.{CatalogueState}
 use Rattle.pac_log.specs.declared.position.NextGate.{NextGate}
-use Rattle.pac_log.specs.Logs.{HoldsLog}
+use Rattle.pac_log.specs.declared.header.HeaderForm.TheVariants.{First}
+use Rattle.pac_log.specs.Logs.{HoldsLog, header_with}
 use Rattle.pac_log.specs.Places.{IsAfter}
 use Rattle.pac_check.specs.declared.state.SlotState.{SlotState}
 use Rattle.pac_check.specs.SlotStates.{IsSlot}
@@ -30,10 +31,10 @@ module _ (engine : EngineParts) (before : CatalogueState) (held : Tables) (end :
   opened-here images up recovered = record {
     recovered = subst (λ (g : NextGate). IsRecoveredFrom engine.session.catalogue engine.session.tables g.txns images) (sym gate)
         (subst (λ (t : Tables). IsRecoveredFrom engine.session.catalogue t end.txns images) (sym tables) (subst (λ (c : CatalogueState). IsRecoveredFrom c held end.txns images) (sym catalogue) recovered));
-    text = up.text;
+    header = header_with First up.text;
     batches = up.batches;
-    log = subst (λ (c : CatalogueState). HoldsLog up.text c up.batches images.log) (sym catalogue) (subst (λ (c : CatalogueState). HoldsLog up.text c up.batches images.log) same up.log);
-    after = subst (λ (g : NextGate). IsAfter up.text up.batches g) (sym gate) up.end;
+    log = subst (λ (c : CatalogueState). HoldsLog (header_with First up.text) c up.batches images.log) (sym catalogue) (subst (λ (c : CatalogueState). HoldsLog (header_with First up.text) c up.batches images.log) same up.log);
+    after = subst (λ (g : NextGate). IsAfter (header_with First up.text) up.batches g) (sym gate) up.end;
   }
 
   pub opened-known : (devices : Devices (Option DiskHistory)) → IfKnown (λ h. HoldsLogUpTo end h.now.seen) devices.log → IfImagesKnown (IsRecoveredFrom before held end.txns) devices → IfImagesKnown (IsOpenedFrom engine) devices

@@ -12,3 +12,4 @@ pub mod ServeLemmas
 pub mod ShortLines
 pub mod StepLemmas
 pub mod StopLemmas
+pub mod ServedStops

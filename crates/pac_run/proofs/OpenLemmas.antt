@@ -16,7 +16,9 @@ use Rattle.pac_types.specs.declared.table.Table.{Table}
 use Rattle.pac_types.specs.Fits.{TxnFits}
 use Rattle.pac_types.specs.Typing.{CatalogueState}
 use Rattle.pac_log.specs.declared.position.NextGate.{NextGate}
-use Rattle.pac_log.specs.Logs.{HoldsLog, all_txns}
+use Rattle.pac_log.specs.declared.header.Header.{Header}
+use Rattle.pac_log.specs.declared.header.HeaderForm.TheVariants.{First}
+use Rattle.pac_log.specs.Logs.{HoldsLog, all_txns, header_with, number_after}
 use Rattle.pac_log.specs.Places.{IsAfter, LogEndsAt}
 use Rattle.pac_log.proofs.OneLog.{one_log}
 use Rattle.pac_check.specs.declared.state.SlotState.{SlotState}
@@ -46,7 +48,7 @@ pub one-log : (gate : NextGate) (old mid now : Option DiskHistory) → mid ≡ o
 one-log gate None mid now synced same known = subst (λ (t : Option DiskHistory). IfKnown (λ h. LogEndsAt gate h.now) t) (sym (same ∙ synced)) tt
 one-log gate (Some h) mid now synced same known =
     let up : HoldsLogUpTo gate h.now.seen = subst (λ (t : Option DiskHistory). IfKnown (λ x. HoldsLogUpTo gate x.now.seen) t) synced known in
-    let ends : LogEndsAt gate (settled h.now.seen) = record { text = up.text; batches = up.batches; holds = record { one = refl; has = up.log }; after = up.end } in
+    let ends : LogEndsAt gate (settled h.now.seen) = record { header = header_with First up.text; batches = up.batches; holds = record { one = refl; has = up.log }; after = up.end } in
     subst (λ (t : Option DiskHistory). IfKnown (λ x. LogEndsAt gate x.now) t) (sym (same ∙ synced)) ends
 
 -- and so it is of a slot
@@ -76,8 +78,8 @@ module _ (engine : EngineParts) (entry : Devices DiskHistory) (none : engine.ses
   module _ (opened : IsOpenedFrom engine (reads_of entry))
       (slot_a : IsSlot engine.session.catalogue.tables engine.slots.a entry.slot_a.now.seen) (slot_b : IsSlot engine.session.catalogue.tables engine.slots.b entry.slot_b.now.seen)
       (text : List ℕ) (catalogue : CatalogueState) (history : List Txn) (least : ℕ) (is : StandsFor text catalogue history least (reads_of entry)) where
-    same-log : (text ≡ opened.text) × (catalogue ≡ engine.session.catalogue) × (is.batches ≡ opened.batches)
-    same-log = one_log text opened.text catalogue engine.session.catalogue is.batches opened.batches images.log is.log opened.log
+    same-log : (header_with First text ≡ opened.header) × (catalogue ≡ engine.session.catalogue) × (is.batches ≡ opened.batches)
+    same-log = one_log (header_with First text) opened.header catalogue engine.session.catalogue is.batches opened.batches images.log is.log opened.log
 
     abbrev recovered : Recovered
     recovered = record { catalogue = engine.session.catalogue; tables = record { tables = 0; rows = engine.session.tables }; txns = durable_of engine }
@@ -86,7 +88,10 @@ module _ (engine : EngineParts) (entry : Devices DiskHistory) (none : engine.ses
     prefix = recovers-prefix text catalogue history least images is recovered opened.recovered
 
     counted : durable_of engine ≡ length (all_txns is.batches)
-    counted = opened.after.txns ∙ ap (λ (bs : List (List Txn)). length (all_txns bs)) (sym same-log.2)
+    counted = omega (arith, numbered)
+      where
+        numbered : durable_of engine ≡ number_after (header_with First text) is.batches
+        numbered = opened.after.txns ∙ ap (λ (h : Header). number_after h opened.batches) (sym same-log.0) ∙ ap (λ (bs : List (List Txn)). number_after (header_with First text) bs) (sym same-log.2)
 
     prefix-is : take (durable_of engine) history ≡ all_txns is.batches
     prefix-is = ap (λ (n : ℕ). take n history) counted ∙ ap (take (length (all_txns is.batches))) is.prefix ∙ take-append_seam (all_txns is.batches) is.later
@@ -94,8 +99,8 @@ module _ (engine : EngineParts) (entry : Devices DiskHistory) (none : engine.ses
     here : StandsOn text (take (durable_of engine) history) engine now
     here = record {
       batches = is.batches;
-      log = record { one = refl; has = subst (λ (c : CatalogueState). HoldsLog text c is.batches entry.log.now.seen) same-log.1 is.log };
-      after = subst (λ (t : List ℕ). IsAfter t is.batches engine.log.gate) (sym same-log.0) (subst (λ (bs : List (List Txn)). IsAfter opened.text bs engine.log.gate) (sym same-log.2) opened.after);
+      log = record { one = refl; has = subst (λ (c : CatalogueState). HoldsLog (header_with First text) c is.batches entry.log.now.seen) same-log.1 is.log };
+      after = subst (λ (h : Header). IsAfter h is.batches engine.log.gate) (sym same-log.0) (subst (λ (bs : List (List Txn)). IsAfter opened.header bs engine.log.gate) (sym same-log.2) opened.after);
       slot_a = record { one = refl; has = subst (λ (c : CatalogueState). IsShutOrPrefix text c is.batches entry.slot_a.now.seen) same-log.1 is.slot_a };
       slot_b = record { one = refl; has = subst (λ (c : CatalogueState). IsShutOrPrefix text c is.batches entry.slot_b.now.seen) same-log.1 is.slot_b };
       known_a = slot_a;
@@ -140,7 +145,7 @@ read-before P entry = where-known (λ d. IfImagesKnown P (synced d)) P (λ known
 
 -- what is refused of the devices after a sync is refused of what they held before it
 refused-before : (limit : ℕ) (entry : Devices (Option DiskHistory)) (error : RecoverError) → AreRefused limit (synced entry) error → AreRefused limit entry error
-refused-before limit entry (recover.Load load.NoStore) refused = known-before (λ h. (text : List ℕ) (catalogue : CatalogueState) → IsStore text catalogue h.now.seen → ⊥) (λ h p. p) entry.log (option_map after_sync entry.log) refl refused
+refused-before limit entry (recover.Load load.NoStore) refused = known-before (λ h. (header : Header) (catalogue : CatalogueState) → IsStore header catalogue h.now.seen → ⊥) (λ h p. p) entry.log (option_map after_sync entry.log) refl refused
 refused-before limit entry (recover.Load (load.Damaged (Log at kind))) refused = known-before (λ h. IsDamagedLog at kind h.now.seen) (λ h p. p) entry.log (option_map after_sync entry.log) refl refused
 refused-before limit entry (recover.Load (load.Damaged (Slot slot at kind))) refused = read-before (IsDamagedSlot slot at kind) entry refused
 refused-before limit entry (recover.Load load.DiskFault) refused = tt

@@ -86,7 +86,7 @@ of-log P Q step known has = go known.log has
 module _ (rules : Rules) (place : ℕ) (start : SessionState) where
   -- a log that ends after groups has their transactions
   log-has : (requests : List Request) (gate : NextGate) → EndsGroups rules place start requests gate → (state : DiskState) → LogEndsAt gate state → LogHas rules place start requests state
-  log-has requests gate after state at = record { text = at.text; catalogue = gate.catalogue; batches = at.batches; log = at.holds; exactly = sym at.after.txns ∙ after.counted; there = sym at.after.place ∙ after.there }
+  log-has requests gate after state at = record { header = at.header; catalogue = gate.catalogue; batches = at.batches; log = at.holds; exactly = sym at.after.txns ∙ after.counted; there = sym at.after.place ∙ after.there }
 
   pub log-has-one : (requests : List Request) (gate : NextGate) → EndsGroups rules place start requests gate → (known : Devices (Option DiskHistory)) → OfLog (LogEndsAt gate) known → OfLog (LogHas rules place start requests) known
   log-has-one requests gate after = of-log (LogEndsAt gate) (LogHas rules place start requests) (log-has requests gate after)
@@ -178,7 +178,7 @@ module _ (batch limit : ℕ) (engine new : EngineParts) (left left' held held' :
   begun-here : (images : Images) → IsOpenedFrom engine images → IsBegun (rules_of engine.session) engine.log.gate.place (state_now engine.session) images
   begun-here images is = record {
     recovered = subst (λ (n : ℕ). IsRecoveredFrom engine.session.catalogue engine.session.tables n images) (sym number-is) is.recovered;
-    text = is.text;
+    header = is.header;
     batches = is.batches;
     log = is.log;
     there = is.after.place;

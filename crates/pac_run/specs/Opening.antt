@@ -5,6 +5,7 @@ use Rattle.pac_outside.specs.Devices.{AllLeave}
 use Rattle.pac_outside.specs.Disk.{DiskHistory}
 use Rattle.pac_outside.specs.declared.devices.Devices.{Devices}
 use Rattle.pac_types.specs.Typing.{CatalogueState}
+use Rattle.pac_log.specs.declared.header.Header.{Header}
 use Rattle.pac_log.specs.Logs.{HoldsLog}
 use Rattle.pac_log.specs.Places.{IsAfter}
 use Rattle.pac_store.specs.Images.{Images}
@@ -26,10 +27,10 @@ pub record IsFresh (batch limit : ℕ) (engine : EngineParts) : Type 0 where
 -- log goes on at the gate after the batches that are stored.
 pub record IsOpenedFrom (engine : EngineParts) (images : Images) : Type 0 where
   pub recovered : IsRecoveredFrom engine.session.catalogue engine.session.tables (durable_of engine) images
-  pub text : List ℕ
+  pub header : Header
   pub batches : List (List Txn)
-  pub log : HoldsLog text engine.session.catalogue batches images.log
-  pub after : IsAfter text batches engine.log.gate
+  pub log : HoldsLog header engine.session.catalogue batches images.log
+  pub after : IsAfter header batches engine.log.gate
 
 -- each image that a crash may leave stands for the history
 abbrev pub AllStand : List ℕ → CatalogueState → List Txn → ℕ → Devices DiskHistory → Type 0

@@ -13,7 +13,8 @@ use Rattle.pac_lines.specs.Lines.{HasNoFeed}
 use Rattle.pac_lines.specs.declared.limits.TheConstants.{MAX_READ}
 use Rattle.pac_types.specs.Execution.{first_over}
 use Rattle.pac_types.specs.Typing.{CatalogueState}
-use Rattle.pac_log.specs.Logs.{HoldsLog, all_txns, log_prefix}
+use Rattle.pac_log.specs.declared.header.Header.{Header}
+use Rattle.pac_log.specs.Logs.{HoldsLog, log_prefix, number_after}
 use Rattle.pac_store.specs.Images.{Images, IfImagesKnown}
 use Rattle.pac_store.specs.Stands.{StandsFor}
 use Rattle.pac_request.specs.declared.request.Request.{Request}
@@ -38,10 +39,10 @@ use Rattle.pac_run.specs.Texts.{IsTextPrefix, texts}
 -- transactions, and with the log's gate after the batches that are stored.
 pub record IsBegun (rules : Rules) (place : ℕ) (start : SessionState) (images : Images) : Type 0 where
   pub recovered : IsRecoveredFrom rules.catalogue start.tables start.number images
-  pub text : List ℕ
+  pub header : Header
   pub batches : List (List Txn)
-  pub log : HoldsLog text rules.catalogue batches images.log
-  pub there : place ≡ length (log_prefix text batches)
+  pub log : HoldsLog header rules.catalogue batches images.log
+  pub there : place ≡ length (log_prefix header batches)
   pub within : first_over rules.limit (length rules.catalogue.tables) start.tables ≡ None
 
 -- ---- what the devices hold
@@ -67,15 +68,15 @@ AtExit text catalogue history rules place start requests out entry now =
     ((out ≡ []) × AllLeave (AreImages entry) now)
     ⊎ (IsBegun rules place start (reads_of entry) × IsExit text catalogue (history_after history rules start requests) start.number out now)
 
--- a crash leaves one image of the log: it has as many transactions as there were at the start and in the groups that these
--- requests close, and its closed gate is at the offset after these
+-- a crash leaves one image of the log: its last transaction has the number of those that there were at the start and in the groups
+-- that these requests close, and its closed gate is at the offset after these
 pub record LogHas (rules : Rules) (place : ℕ) (start : SessionState) (requests : List Request) (state : DiskState) : Type 0 where
-  pub text : List ℕ
+  pub header : Header
   pub catalogue : CatalogueState
   pub batches : List (List Txn)
-  pub log : OneImage (HoldsLog text catalogue batches) state
-  pub exactly : length (all_txns batches) ≡ closed_number rules start requests
-  pub there : length (log_prefix text batches) ≡ place_after place (closed_groups rules place start requests)
+  pub log : OneImage (HoldsLog header catalogue batches) state
+  pub exactly : number_after header batches ≡ closed_number rules start requests
+  pub there : length (log_prefix header batches) ≡ place_after place (closed_groups rules place start requests)
 
 -- each image of the log that a crash may leave is so with the groups that the first of these lists closes, or the second
 abbrev pub LogHasEither : Rules → ℕ → SessionState → List Request → List Request → DiskState → Type 0

@@ -1,33 +1,25 @@
 -- A text is read as one thing: one script, or one first fault.
 use Rattle.std.proofs.Common.{◌≡◌, ◌∙◌, ◌≤◌, ◌<◌, ◌+◌, ◌&&◌, ◌⊎◌, inl, inr, leb, ℕ, suc, Bool, true, false, List, [], ◌∷◌, ◌++◌, length, Option, Some, None, Result, Ok, Err, refl, sym, ap, ap₂, subst, arith}
-use Rattle.std.specs.Prelude.{slice_get}
 use Rattle.std.specs.List.{AllZip, flat_map}
-use Rattle.std.specs.Option.{option_map}
 use Rattle.std.proofs.lemmas.List.{length-append}
 use Rattle.std.proofs.lemmas.List.Sums.{sum_by-append}
 use Rattle.std.proofs.lemmas.Bool.{cases_order, le-leb, leb-true}
 use Rattle.pac_entry.specs.Entries.{txn_bytes}
-use Rattle.pac_flat.proofs.ExcessLemmas.{first_once, within-none}
+use Rattle.pac_flat.specs.declared.acceptance.AcceptFault.{AcceptFault}
+use Rattle.pac_flat.proofs.OneAcceptance.{accepted_or_not, one_catalogue, one_unaccepted}
 use Rattle.pac_ops.specs.declared.batch.Batch.{Batch}
 use Rattle.pac_ops.specs.declared.transaction.Txn.{Txn}
-use Rattle.pac_syntax.proofs.OneReading.{reads_once}
-use Rattle.pac_types.specs.CatalogueText.{HasCatalogue}
-use Rattle.pac_types.specs.OperationLimits.{HasFewOperations, excess_at}
 use Rattle.pac_types.specs.Typing.{CatalogueState}
-use Rattle.pac_types.specs.declared.procedure.Proc.{Proc}
-use Rattle.pac_types.specs.declared.text.CatalogueFault.{CatalogueFault}
-use Rattle.pac_types.proofs.OneCatalogue.{one_catalogue_fault, catalogue_or_fault, same_tree}
-use Rattle.pac_types.proofs.TypingLemmas.{one_catalogue as one_typed}
 use Rattle.pac_request.specs.declared.fault.LineFault.{LineFault}
 use Rattle.pac_request.specs.declared.request.Request.{Request}
 use Rattle.pac_script.specs.declared.script.Script.{Script}
 use Rattle.pac_script.specs.declared.script_fault.ScriptFault.{ScriptFault}
-use Rattle.pac_script.specs.declared.script_fault.ScriptFault.TheVariants.{Catalogue, TooManyOps, Line}
+use Rattle.pac_script.specs.declared.script_fault.ScriptFault.TheVariants.{Unaccepted, Line}
 use Rattle.pac_script.specs.declared.step.ScriptStep.{ScriptStep}
 use Rattle.pac_script.specs.Batches.{body_len, fits, flush_runs, steps, Ends, HasSome, AreLongest, as_batches, AreCutInto}
 use Rattle.pac_script.specs.Lines.{IsMark}
 use Rattle.pac_request.specs.LineReading.{LineAnswer}
-use Rattle.pac_script.specs.Script.{MarkOf, text_before, text_after, lines_after, Accepts, HasBatches, IsFirstRefused, HasParts, IsExcess, IsPartsFault, PartsSay, ScriptSays}
+use Rattle.pac_script.specs.Script.{MarkOf, text_before, text_after, lines_after, Accepts, HasBatches, IsFirstRefused, HasParts, IsPartsFault, PartsSay, ScriptSays}
 use Rattle.pac_request.specs.ScriptLines.{ScriptLineSays}
 use Rattle.pac_request.proofs.LineOnce.{script_line_once}
 
@@ -180,29 +172,6 @@ batches_one all a b h k = sym h.are ∙ ap (λ (p : List (List (List Txn))). as_
 made_once : (c : CatalogueState) (ls : List (List ℕ)) (a b : List Batch) → HasBatches c ls a → HasBatches c ls b → a ≡ b
 made_once c ls a b h k = batches_one (steps h.said) a b h.cut (subst (λ (s : List (Option Request)). AreCutInto (steps s) b) (sym (accepts_one c ls h.said k.said h.accepted k.accepted)) k.cut)
 
--- ---- the catalogue
-
-pub one_catalogue : (text : List ℕ) (a b : CatalogueState) → HasCatalogue text a → HasCatalogue text b → a ≡ b
-one_catalogue text a b h k = one_typed h.tree a b h.typed (same_tree h.tree k.tree b (reads_once text h.tree k.tree h.reads k.reads) k.typed)
-
-same_name : (procs : List Proc) (m n : ℕ) (f g : List ℕ) → m ≡ n → option_map (λ (p : Proc). p.name) (slice_get procs m) ≡ Some f → option_map (λ (p : Proc). p.name) (slice_get procs n) ≡ Some g → f ≡ g
-same_name procs m n f g same h k = let both : Some f ≡ Some g = sym h ∙ ap (λ (i : ℕ). option_map (λ (p : Proc). p.name) (slice_get procs i)) same ∙ k in cc
-
-same_count : (procs : List Proc) (m n a b : ℕ) → m ≡ n → excess_at procs m ≡ Some a → excess_at procs n ≡ Some b → a ≡ b
-same_count procs m n a b same h k = let both : Some a ≡ Some b = sym h ∙ ap (excess_at procs) same ∙ k in cc
-
--- procedures have one first excess
-one_excess : (procs : List Proc) (f g : List ℕ) (a b : ℕ) → IsExcess procs f a → IsExcess procs g b → ◌≡◌ {A = ScriptFault} (TooManyOps f a) (TooManyOps g b)
-one_excess procs f g a b h k =
-    let same : h.number ≡ k.number = first_once procs h.number k.number a b h.first k.first in
-    let names : f ≡ g = same_name procs h.number k.number f g same h.named k.named in
-    let counts : a ≡ b = same_count procs h.number k.number a b same h.first.here k.first.here in
-    λ i. TooManyOps (names i) (counts i)
-
--- an excess is none of the same catalogue where operations are few
-pub few_or_excess : (prefix : List ℕ) (c d : CatalogueState) (f : List ℕ) (a : ℕ) → HasCatalogue prefix c → HasFewOperations c.procs → HasCatalogue prefix d → IsExcess d.procs f a → ⊥
-few_or_excess prefix c d f a h few k e = within-none d.procs e.number a (subst (λ (x : CatalogueState). HasFewOperations x.procs) (one_catalogue prefix c d h k) few) e.first.here
-
 -- ---- the parts of a text
 
 abbrev Answer : Type 0
@@ -224,8 +193,7 @@ scripts_once prefix after a b h k =
     λ i. record { catalogue = same i; batches = made i }
 
 script_or_fault : (prefix after : List ℕ) (s : Script) (f : ScriptFault) → HasParts prefix after s → IsPartsFault prefix after f → ⊥
-script_or_fault prefix after s (Catalogue f) h k = catalogue_or_fault prefix s.catalogue f h.accepted.has k
-script_or_fault prefix after s (TooManyOps name count) h k = few_or_excess prefix s.catalogue k.0 name count h.accepted.has h.accepted.few k.1 k.2
+script_or_fault prefix after s (Unaccepted f) h k = accepted_or_not prefix s.catalogue f h.accepted k
 script_or_fault prefix after s (Line number f) h k =
     accepted_or_refused s.catalogue (lines_after after) s.batches number f h.batches (lines_over after k.0 s.catalogue number f (one_catalogue prefix k.0 s.catalogue k.1.has h.accepted.has) k.2)
 
@@ -233,14 +201,9 @@ line_faults_once : (after : List ℕ) (c : CatalogueState) (m n : ℕ) (f g : Li
 line_faults_once after c m n f g h k = let same = refused_once c (lines_after after) m n f g h k in λ i. Line (same.0 i) (same.1 i)
 
 pub faults_once : (prefix after : List ℕ) (f g : ScriptFault) → IsPartsFault prefix after f → IsPartsFault prefix after g → f ≡ g
-faults_once prefix after (Catalogue f) (Catalogue g) h k = ap (λ (x : CatalogueFault). Catalogue x) (one_catalogue_fault prefix f g h k)
-faults_once prefix after (Catalogue f) (TooManyOps name count) h k = absurd (catalogue_or_fault prefix k.0 f k.1 h)
-faults_once prefix after (Catalogue f) (Line number g) h k = absurd (catalogue_or_fault prefix k.0 f k.1.has h)
-faults_once prefix after (TooManyOps name count) (Catalogue g) h k = absurd (catalogue_or_fault prefix h.0 g h.1 k)
-faults_once prefix after (TooManyOps f a) (TooManyOps g b) h k = one_excess k.0.procs f g a b (subst (λ (x : CatalogueState). IsExcess x.procs f a) (one_catalogue prefix h.0 k.0 h.1 k.1) h.2) k.2
-faults_once prefix after (TooManyOps name count) (Line number g) h k = absurd (few_or_excess prefix k.0 h.0 name count k.1.has k.1.few h.1 h.2)
-faults_once prefix after (Line number f) (Catalogue g) h k = absurd (catalogue_or_fault prefix h.0 g h.1.has k)
-faults_once prefix after (Line number f) (TooManyOps name count) h k = absurd (few_or_excess prefix h.0 k.0 name count h.1.has h.1.few k.1 k.2)
+faults_once prefix after (Unaccepted f) (Unaccepted g) h k = ap (λ (x : AcceptFault). Unaccepted x) (one_unaccepted prefix f g h k)
+faults_once prefix after (Unaccepted f) (Line number g) h k = absurd (accepted_or_not prefix k.0 f k.1 h)
+faults_once prefix after (Line number f) (Unaccepted g) h k = absurd (accepted_or_not prefix h.0 g h.1 k)
 faults_once prefix after (Line m f) (Line n g) h k = line_faults_once after k.0 m n f g (lines_over after h.0 k.0 m f (one_catalogue prefix h.0 k.0 h.1.has k.1.has) h.2) k.2
 
 parts_once : (prefix after : List ℕ) (a b : Answer) → PartsSay prefix after a → PartsSay prefix after b → a ≡ b

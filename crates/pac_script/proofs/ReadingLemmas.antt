@@ -12,12 +12,12 @@ use Rattle.pac_script.specs.Lines.{lines}
 use Rattle.pac_script.specs.declared.script.Script.{Script}
 use Rattle.pac_request.specs.declared.request.Request.{Request}
 use Rattle.pac_script.specs.declared.script_fault.ScriptFault.{ScriptFault}
-use Rattle.pac_script.specs.declared.script_fault.ScriptFault.TheVariants.{Catalogue, TooManyOps, Line}
+use Rattle.pac_script.specs.declared.script_fault.ScriptFault.TheVariants.{Unaccepted, Line}
 use Rattle.pac_script.specs.declared.step.ScriptStep.{ScriptStep}
 use Rattle.pac_script.specs.declared.step.ScriptStep.TheVariants.{Add, Flush}
 use Rattle.pac_script.specs.Batches.{fits, step_of, steps, AreCutInto}
 use Rattle.pac_script.specs.Cutting.{Cut, flushed, with_last, cut_all, nothing_cut, next_txn}
-use Rattle.pac_script.specs.Script.{Accepts, HasBatches, IsPartsFault, IsUnaccepted, PartsSay, lines_after}
+use Rattle.pac_script.specs.Script.{Accepts, HasBatches, IsPartsFault, PartsSay, lines_after}
 use Rattle.pac_types.specs.Accepted.{IsAccepted}
 use Rattle.pac_request.specs.ScriptLines.{ScriptLineSays}
 use Rattle.pac_script.specs.ScriptReading.{step_cut, asked_cut, IsSmallStep, IsSmallAsked, IsLineFault, IsLinesFault}
@@ -128,8 +128,7 @@ refused-here catalogue all rest others line number c (Line reported fault) r is 
   accepted = r.accepted;
   refused = says.1;
 }
-refused-here catalogue all rest others line number c (Catalogue fault) r is says = absurd says
-refused-here catalogue all rest others line number c (TooManyOps name count) r is says = absurd says
+refused-here catalogue all rest others line number c (Unaccepted fault) r is says = absurd says
 
 pub all-read : (catalogue : CatalogueState) (all : List (List ℕ)) (number : ℕ) (c : Cut) (made : List Batch) → Reading catalogue all [] number c → made ≡ (flushed c).closed → HasBatches catalogue all made
 all-read catalogue all number c made r is = record {
@@ -167,19 +166,7 @@ as_error {S} {T} e fault is = ap failed (error_is is)
 
 line-parts : (prefix following : List ℕ) (catalogue : CatalogueState) (fault : ScriptFault) → IsAccepted prefix catalogue → IsLinesFault catalogue (lines_after following) fault → IsPartsFault prefix following fault
 line-parts prefix following catalogue (Line number fault) few is = (catalogue, few, is)
-line-parts prefix following catalogue (Catalogue fault) few is = absurd is
-line-parts prefix following catalogue (TooManyOps name count) few is = absurd is
-
-unaccepted-parts : (prefix following : List ℕ) (fault : ScriptFault) → IsUnaccepted prefix fault → IsPartsFault prefix following fault
-unaccepted-parts prefix following (Catalogue fault) is = is
-unaccepted-parts prefix following (TooManyOps name count) is = is
-unaccepted-parts prefix following (Line number fault) is = absurd is
-
--- the parts of a text that isn't accepted
-pub refused-parts : (prefix following : List ℕ) (error : Refusal ScriptFault) → ((fault : ScriptFault) → ◌≡◌ {A = Result CatalogueState (Refusal ScriptFault)} (Err error) (Err (Fault fault)) → IsUnaccepted prefix fault)
-    → AnswersBy (PartsSay prefix following) (Err error)
-refused-parts prefix following (Fault fault) is = unaccepted-parts prefix following fault (is fault refl)
-refused-parts prefix following NoMemory is = tt
+line-parts prefix following catalogue (Unaccepted fault) few is = absurd is
 
 -- the parts of a text whose catalogue has few operations
 pub few-parts : (prefix following : List ℕ) (catalogue : CatalogueState) (r : Result Script (Refusal ScriptFault)) → IsAccepted prefix catalogue

@@ -1,18 +1,15 @@
 -- What a script is: a catalogue of few operations, and after a line that is exactly `---` its request lines.
-use Rattle.std.specs.Prelude.{◌≡◌, ◌+◌, ℕ, List, [], ◌∷◌, ◌++◌, take, drop, length, slice_get, Option, Some, None, MatchOption, Result, Ok, Err}
+use Rattle.std.specs.Prelude.{◌≡◌, ◌+◌, ℕ, List, [], ◌∷◌, ◌++◌, take, drop, length, Option, Some, None, MatchOption, Result, Ok, Err}
 use Rattle.std.specs.List.{AllZip}
-use Rattle.std.specs.Option.{option_map}
 use Rattle.pac_ops.specs.declared.batch.Batch.{Batch}
 use Rattle.pac_types.specs.Accepted.{IsAccepted}
 use Rattle.pac_types.specs.Typing.{CatalogueState}
-use Rattle.pac_types.specs.CatalogueText.{HasCatalogue, IsCatalogueFault}
-use Rattle.pac_types.specs.declared.procedure.Proc.{Proc}
-use Rattle.pac_types.specs.OperationLimits.{IsFirstExcess}
+use Rattle.pac_flat.specs.Unaccepted.{IsUnaccepted}
 use Rattle.pac_request.specs.declared.fault.LineFault.{LineFault}
 use Rattle.pac_request.specs.declared.request.Request.{Request}
 use Rattle.pac_script.specs.declared.script.Script.{Script}
 use Rattle.pac_script.specs.declared.script_fault.ScriptFault.{ScriptFault}
-use Rattle.pac_script.specs.declared.script_fault.ScriptFault.TheVariants.{Catalogue, TooManyOps, Line}
+use Rattle.pac_script.specs.declared.script_fault.ScriptFault.TheVariants.{Unaccepted, Line}
 use Rattle.pac_script.specs.Batches.{steps, AreCutInto}
 use Rattle.pac_script.specs.Lines.{lines, IsMark, HasNoMark}
 use Rattle.pac_request.specs.ScriptLines.{ScriptLineSays}
@@ -68,23 +65,10 @@ pub record HasParts (prefix after : List ℕ) (script : Script) : Type 0 where
   pub accepted : IsAccepted prefix script.catalogue
   pub batches : HasBatches script.catalogue (lines_after after) script.batches
 
--- the procedure with this name is the first at which operations are too many, and this is how many there are
-pub record IsExcess (procs : List Proc) (name : List ℕ) (count : ℕ) : Type 0 where
-  pub number : ℕ
-  pub first : IsFirstExcess procs number count
-  pub named : option_map (λ proc. proc.name) (slice_get procs number) ≡ Some name
-
--- a text isn't accepted for this: its first fault where it has no catalogue, or the first procedure at which operations are too many
-abbrev pub IsUnaccepted : List ℕ → ScriptFault → Type 0
-IsUnaccepted text (Catalogue fault) = IsCatalogueFault text fault
-IsUnaccepted text (TooManyOps name count) = (catalogue : CatalogueState) × HasCatalogue text catalogue × IsExcess catalogue.procs name count
-IsUnaccepted text (Line number fault) = ⊥
-
--- The first fault of the text before the mark and of the lines after it: that of the catalogue's text; where that has a catalogue, the
--- first procedure at which operations are too many; and where they are few, the first line that is refused.
+-- The first fault of the text before the mark and of the lines after it: why the text isn't accepted as a catalogue; and where it is,
+-- the first line that is refused.
 abbrev pub IsPartsFault : List ℕ → List ℕ → ScriptFault → Type 0
-IsPartsFault prefix after (Catalogue fault) = IsCatalogueFault prefix fault
-IsPartsFault prefix after (TooManyOps name count) = (catalogue : CatalogueState) × HasCatalogue prefix catalogue × IsExcess catalogue.procs name count
+IsPartsFault prefix after (Unaccepted fault) = IsUnaccepted prefix fault
 IsPartsFault prefix after (Line number fault) = (catalogue : CatalogueState) × IsAccepted prefix catalogue × IsFirstRefused catalogue (lines_after after) number fault
 
 -- what the parts of a text are read as: this script, or this first fault

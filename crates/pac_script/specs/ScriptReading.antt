@@ -3,11 +3,11 @@ use Rattle.std.specs.Prelude.{◌≡◌, ℕ, List, Option, Some, None, Err}
 use Rattle.pac_types.specs.Typing.{CatalogueState}
 use Rattle.pac_request.specs.declared.request.Request.{Request}
 use Rattle.pac_script.specs.declared.script_fault.ScriptFault.{ScriptFault}
-use Rattle.pac_script.specs.declared.script_fault.ScriptFault.TheVariants.{TooManyOps, Line}
+use Rattle.pac_script.specs.declared.script_fault.ScriptFault.TheVariants.{Line}
 use Rattle.pac_script.specs.declared.step.ScriptStep.{ScriptStep}
 use Rattle.pac_script.specs.Batches.{step_of}
 use Rattle.pac_script.specs.Cutting.{Cut, cut_more, IsSmall}
-use Rattle.pac_script.specs.Script.{IsExcess, IsFirstRefused}
+use Rattle.pac_script.specs.Script.{IsFirstRefused}
 use Rattle.pac_request.specs.ScriptLines.{ScriptLineSays}
 
 -- the batches after a line that asks this
@@ -29,11 +29,6 @@ IsSmallStep (Some step) = IsSmall step
 abbrev pub IsSmallAsked : Option Request → Type 0
 IsSmallAsked None = Unit {0}
 IsSmallAsked (Some asked) = IsSmallStep (step_of asked)
-
--- what is reported of a catalogue is the first procedure at which operations are too many
-abbrev pub IsExcessFault : CatalogueState → ScriptFault → Type 0
-IsExcessFault catalogue (TooManyOps name count) = IsExcess catalogue.procs name count
-IsExcessFault catalogue _ = ⊥
 
 -- what is reported of the line with this number is its own fault
 abbrev pub IsLineFault : CatalogueState → List ℕ → ℕ → ScriptFault → Type 0

@@ -2,8 +2,6 @@
 //!
 //! - [`read_script`]: the [`Script`] that a text is, a catalogue and batches of transactions that fit it; or its first
 //!   [`ScriptFault`].
-//! - [`read_accepted`]: the catalogue of a text, where a database takes it. [`excess_fault`]: too many operations of a catalogue, as
-//!   a script's fault.
 //! - [`stress_txn`]: the transactions of the stress test. [`BANK`]: the text of the catalogue over which it runs; [`bank_text`] returns
 //!   it as the one that `specs/BankText.antt` spells.
 //!
@@ -20,7 +18,6 @@
 //! time (`specs/Cutting.antt`, `specs/ScriptReading.antt`); no public clause names these.
 #![tactic(auto)]
 
-mod accepted;
 mod bank;
 mod batcher;
 mod lines;
@@ -29,8 +26,7 @@ mod script_fault;
 mod step;
 mod stress;
 
-pub use accepted::read_accepted;
 pub use bank::{BANK, bank_text};
 pub use script::{Script, read_script};
-pub use script_fault::{ScriptError, ScriptFault, excess_fault};
+pub use script_fault::{ScriptError, ScriptFault};
 pub use stress::stress_txn;

@@ -11,11 +11,11 @@ ghost use Rattle.pac_script.specs.declared.script.Script.{Script as AScript};
 ghost use Rattle.pac_script.specs.declared.script_fault.ScriptFault.{ScriptFault as AFault};
 ghost use Rattle.pac_script.specs.ScriptReading.{IsLineFault, IsLinesFault};
 
-use crate::accepted::read_accepted;
 use crate::batcher::Batcher;
 use crate::lines::{find_mark, first_line};
 use crate::script_fault::{ScriptError, ScriptFault};
 use pac_base::{Refusal, listed};
+use pac_flat::accepted;
 use pac_ops::{Batch, Batches};
 use pac_request::{Request, read_script_line};
 use pac_types::Catalogue;
@@ -94,9 +94,10 @@ fn with_batches(alloc: Global, catalogue: Catalogue, after: &[u8]) -> Result<Scr
 fn read_parts(alloc: Global, prefix: &[u8], after: &[u8]) -> Result<Script, ScriptError>
     ensures { AnswersBy (PartsSay prefix.now after.now) result }
 {
-    match read_accepted(alloc, prefix) {
+    match accepted(alloc, prefix) {
         Ok(catalogue) => with_batches(alloc, catalogue, after),
-        Err(error) => Err(error),
+        Err(Refusal::Fault(fault)) => Err(Refusal::Fault(ScriptFault::Unaccepted(fault))),
+        Err(Refusal::NoMemory) => Err(Refusal::NoMemory),
     }
 }
 
@@ -114,9 +115,9 @@ fn read_text(alloc: Global, text: &[u8]) -> Result<Script, ScriptError>
 ///
 /// # Errors
 ///
-/// The first fault, or `NoMemory`: [`ScriptFault::Catalogue`] where the text before the first line that is `---`, or all of
-/// it, has no catalogue; then [`ScriptFault::TooManyOps`] where that has more operations than it may; and then
-/// [`ScriptFault::Line`], the first line after that is refused, as [`read_script_line`] refuses it.
+/// The first fault, or `NoMemory`: [`ScriptFault::Unaccepted`] where the text before the first line that is `---`, or all of
+/// it, isn't [accepted] as a catalogue; and else [`ScriptFault::Line`], the first line after that is refused, as
+/// [`read_script_line`] refuses it.
 pub fn read_script(alloc: Global, text: &[u8]) -> Result<Script, ScriptError>
     // What is answered is what the text is read as.
     ensures says { AnswersBy (ScriptSays text.now) result }

@@ -88,4 +88,4 @@ pub record IsWellFormed (now : Open) (count len : ℕ) : Type 0 where
   pub fewer : length now.txns ≤ length now.held
   pub few : length now.held ≤ now.most
   pub most : now.most ≤ MAX_TXNS
-  pub numbers : now.before ≤ 2 ^ 63 + MAX_TXNS
+  pub numbers : now.before ≤ 2 ^ 63 + 2 ^ 62 + MAX_TXNS

@@ -76,7 +76,7 @@ impl Session {
         requires within { first_over limit (length catalogue.tables) rows.rows ≡ ANone }
         requires some { 1 ≤ most }
         requires few { most ≤ MAX_TXNS }
-        requires numbers { before ≤ 2 ^ 63 }
+        requires numbers { before ≤ 2 ^ 63 + 2 ^ 62 }
         ensures { result ≡ record { catalogue = catalogue; limit = limit; most = most; tables = rows.rows; before = before; txns = []; held = [] } }
     {
         Session {
@@ -235,7 +235,7 @@ impl Session {
 
     /// Closes the open group, and returns its transactions and replies. Takes no memory.
     pub fn close(&mut self) -> (Vec<Txn>, Replies)
-        requires { self.old.before ≤ 2 ^ 63 }
+        requires { self.old.before ≤ 2 ^ 63 + 2 ^ 62 }
         ensures closed { self.new ≡ with_closed self.old }
         ensures txns { result.0.items ≡ self.old.txns }
         ensures replies { result.1 ≡ self.old.held }

@@ -17,7 +17,11 @@ use Rattle.pac_types.specs.Typing.{CatalogueState}
 use Rattle.pac_types.specs.CatalogueText.{HasCatalogue}
 use Rattle.pac_types.proofs.ExecutionLemmas.{serial-parts}
 use Rattle.pac_types.proofs.TypingLemmas.{tables_few}
-use Rattle.pac_log.specs.Logs.{HasGate, all_txns}
+use Rattle.pac_log.specs.declared.header.Header.{Header}
+use Rattle.pac_log.specs.declared.header.HeaderForm.TheVariants.{First}
+use Rattle.pac_log.specs.Logs.{HasGate, all_txns, header_with}
+use Rattle.pac_outside.specs.declared.devices.LogName.TheVariants.{Log}
+use Rattle.pac_check.specs.declared.head.SlotForm.{SlotForm}
 use Rattle.pac_log.proofs.OneGate.{few}
 use Rattle.pac_log.proofs.OneLog.{one_log}
 use Rattle.pac_check.specs.declared.head.Head.{Head}
@@ -26,13 +30,13 @@ use Rattle.pac_check.specs.declared.info.SlotName.{SlotName}
 use Rattle.pac_check.specs.declared.info.SlotName.TheVariants.{A, B}
 use Rattle.pac_check.specs.declared.state.SlotState.{SlotState}
 use Rattle.pac_check.specs.declared.state.SlotState.TheVariants.{Empty, Closed, Open}
-use Rattle.pac_check.specs.Checkpoints.{Checkpoint, head_with}
+use Rattle.pac_check.specs.Checkpoints.{Checkpoint, segment_in}
 use Rattle.pac_check.specs.Saved.{checkpoint_of}
-use Rattle.pac_check.specs.SlotStates.{by_slot, info_of, slot_read, with_more, HoldsRows, IsSlot}
+use Rattle.pac_check.specs.SlotStates.{by_slot, info_of, newest_among, slot_read, with_more, HoldsInfo, HoldsRows, IsSlot}
 use Rattle.pac_check.proofs.OnceLemmas.{one-checkpoint, one-state}
 use Rattle.pac_check.proofs.SlotLemmas.{read_held}
 use Rattle.pac_store.specs.Images.{Images}
-use Rattle.pac_store.specs.Stored.{Stored, IsPlaced, IsStored, AreNewest, newest_among}
+use Rattle.pac_store.specs.Stored.{Stored, IsPlaced, IsStored, AreNewest}
 use Rattle.pac_store.specs.Stands.{EndsWith, IsHistory, HasSaved, HoldsSaved, IsShutOrPrefix, StandsFor}
 use Rattle.pac_store.specs.Prefixes.{ContinuesPrefix}
 
@@ -78,8 +82,8 @@ known-prefix text catalogue history least images is = ap (λ (h : List Txn). tak
 
 pub one-prefix : (s t : List ℕ) (c d : CatalogueState) (h g : List Txn) (least : ℕ) (images : Images) → StandsFor s c h least images → StandsFor t d g least images → (s ≡ t) × (c ≡ d) × (take least h ≡ take least g)
 one-prefix s t c d h g least images is other =
-    let one = one_log s t c d is.batches other.batches images.log is.log other.log in
-    (one.0, one.1, known-prefix s c h least images is ∙ ap (λ (b : List (List Txn)). take least (all_txns b)) one.2 ∙ sym (known-prefix t d g least images other))
+    let one = one_log (header_with First s) (header_with First t) c d is.batches other.batches images.log is.log other.log in
+    (ap (λ (h : Header). h.text) one.0, one.1, known-prefix s c h least images is ∙ ap (λ (b : List (List Txn)). take least (all_txns b)) one.2 ∙ sym (known-prefix t d g least images other))
 
 pub one-whole : (s t : List ℕ) (c d : CatalogueState) (h g : List Txn) (images : Images) → length h ≡ length g → StandsFor s c h (length h) images → StandsFor t d g (length g) images → h ≡ g
 one-whole s t c d h g images long is other =
@@ -117,7 +121,7 @@ open-prefix text catalogue few_tables batches image head base (inr prefix) fits 
     let same = one-saved catalogue.tables few_tables image prefix.head head prefix.held base prefix.fit fits prefix.rows rows in
     let number : prefix.head.txns ≡ head.txns = ap (λ (h : Head). h.txns) same.0 in
     record {
-      within = subst (λ (n : ℕ). n ≤ length (all_txns batches)) number (few text batches prefix.head.place prefix.head.txns prefix.gate);
+      within = omega (arith, number, few (header_with First text) batches prefix.head.place prefix.head.txns prefix.gate);
       ends = subst (λ (t : Tables). EndsWith catalogue (take head.txns (all_txns batches)) t) same.1 (subst (λ (n : ℕ). EndsWith catalogue (take n (all_txns batches)) prefix.held) number prefix.ends);
     }
 
@@ -133,9 +137,12 @@ newest-prefix text catalogue few_tables batches images a b None base number are 
     the_end t = Ok t
 newest-prefix text catalogue few_tables batches images a b (Some info) base number are = subst (λ (n : ℕ). IsPrefixTables text catalogue batches n base) (sym are.2) (go info.slot are.1)
   where
-    go : (slot : SlotName) → HoldsRows catalogue.tables (head_with info.txns info.place) base (by_slot slot images.slot_a images.slot_b) → IsPrefixTables text catalogue batches info.txns base
-    go A rows = open-prefix text catalogue few_tables batches images.slot_a (head_with info.txns info.place) base a are.0 rows
-    go B rows = open-prefix text catalogue few_tables batches images.slot_b (head_with info.txns info.place) base b are.0 rows
+    the_head : SlotForm → Head
+    the_head form = record { txns = info.txns; place = info.place; form = form }
+
+    go : (slot : SlotName) → HoldsInfo catalogue.tables info base (by_slot slot images.slot_a images.slot_b) → IsPrefixTables text catalogue batches info.txns base
+    go A holds = open-prefix text catalogue few_tables batches images.slot_a (the_head holds.0) base a are.0 holds.2
+    go B holds = open-prefix text catalogue few_tables batches images.slot_b (the_head holds.0) base b are.0 holds.2
 
 -- ---- what is stored goes on
 
@@ -180,7 +187,7 @@ goes-on-here text catalogue few_tables history least images is stored same newes
 pub goes-on : (text : List ℕ) (catalogue : CatalogueState) (history : List Txn) (least : ℕ) (images : Images) (stored : Stored) → StandsFor text catalogue history least images → IsStored images stored → ContinuesPrefix catalogue history least stored
 goes-on text catalogue history least images stored is there =
     let few_tables = few-tables text catalogue is.log.log.accepted.has in
-    let one = one_log text there.text catalogue stored.catalogue is.batches there.batches images.log is.log there.log in
+    let one = one_log (header_with First text) (header_with First there.text) catalogue stored.catalogue is.batches there.batches images.log is.log there.log in
     goes-on-here text catalogue few_tables history least images is stored (sym one.1) (newest_among there.a there.b)
     (subst (λ (c : CatalogueState). AreNewest c images.slot_a images.slot_b (newest_among there.a there.b) stored.base stored.number) (sym one.1) there.newest)
     (there.after ∙ ap (λ (b : List (List Txn)). drop stored.number (all_txns b)) (sym one.2))
@@ -201,7 +208,7 @@ newest-one (Some a) (Some b) info e = go (nat_lt a.txns b.txns) e
 pub record IsReadable (text : List ℕ) (catalogue : CatalogueState) (batches : List (List Txn)) (image : List ℕ) : Type 0 where
   pub state : SlotState
   pub is : IsSlot catalogue.tables state image
-  pub prefix : (head : Head) → state ≡ Open head → (held : Tables) × FitTables catalogue.tables held × HoldsRows catalogue.tables head held image × HasGate text batches head.place head.txns
+  pub prefix : (head : Head) → state ≡ Open head → (held : Tables) × FitTables catalogue.tables held × HoldsRows catalogue.tables head held image × (segment_in head.form ≡ Log) × HasGate (header_with First text) batches head.place head.txns
 
 shut-read : (tables : List Table) (image : List ℕ) → IsShut [] image → slot_read tables image ≡ Ok Closed
 shut-read tables image shut = ap (slot_read tables) shut.split ∙ go (eqb shut.gate 1) refl
@@ -226,31 +233,38 @@ readable text catalogue few_tables batches image (inr prefix) = record {
   state = Open prefix.head;
   is = read_held catalogue.tables few_tables image (checkpoint_of (length catalogue.tables) prefix.head prefix.held) prefix.rows;
   prefix = λ head e.
-      let same = same-head prefix.head head e in
-      (prefix.held, prefix.fit, subst (λ (h : Head). HoldsRows catalogue.tables h prefix.held image) same prefix.rows, subst (λ (h : Head). HasGate text batches h.place h.txns) same prefix.gate);
+      let same = same-head prefix.head head e in (
+        prefix.held,
+        prefix.fit,
+        subst (λ (h : Head). HoldsRows catalogue.tables h prefix.held image) same prefix.rows,
+        subst (λ (h : Head). segment_in h.form ≡ Log) same prefix.names,
+        subst (λ (h : Head). HasGate (header_with First text) batches h.place h.txns) same prefix.gate,
+      );
 }
 
 -- an open slot by its name
-same-info : (slot : SlotName) (state : SlotState) (info : SlotInfo) → info_of slot state ≡ Some info → (head : Head) × (state ≡ Open head) × (info ≡ record { slot = slot; txns = head.txns; place = head.place })
+same-info : (slot : SlotName) (state : SlotState) (info : SlotInfo) → info_of slot state ≡ Some info → (head : Head) × (state ≡ Open head) × (info ≡ record { slot = slot; txns = head.txns; place = head.place; segment = segment_in head.form })
 same-info slot Empty info e = absurd cc
 same-info slot Closed info e = absurd cc
 same-info slot (Open head) info e = (head, refl, cc)
 
 abbrev IsTablesOf : CatalogueState → List ℕ → List ℕ → SlotInfo → Type 0
-IsTablesOf catalogue a b info = (held : Tables) × FitTables catalogue.tables held × HoldsRows catalogue.tables (head_with info.txns info.place) held (by_slot info.slot a b)
+IsTablesOf catalogue a b info = (held : Tables) × FitTables catalogue.tables held × HoldsInfo catalogue.tables info held (by_slot info.slot a b)
 
 module _ (text : List ℕ) (catalogue : CatalogueState) (batches : List (List Txn)) (a b : List ℕ) (ra : IsReadable text catalogue batches a) (rb : IsReadable text catalogue batches b) where
   tables-a : (info : SlotInfo) → info_of A ra.state ≡ Some info → IsTablesOf catalogue a b info
   tables-a info e =
       let found = same-info A ra.state info e in
-      let prefix = ra.prefix found.0 found.1 in
-      subst (λ (i : SlotInfo). IsTablesOf catalogue a b i) (sym found.2) (prefix.0, prefix.1, prefix.2)
+      let head : Head = found.0 in
+      let prefix = ra.prefix head found.1 in
+      subst (λ (i : SlotInfo). IsTablesOf catalogue a b i) (sym found.2) (prefix.0, prefix.1, (head.form, refl, prefix.2))
 
   tables-b : (info : SlotInfo) → info_of B rb.state ≡ Some info → IsTablesOf catalogue a b info
   tables-b info e =
       let found = same-info B rb.state info e in
-      let prefix = rb.prefix found.0 found.1 in
-      subst (λ (i : SlotInfo). IsTablesOf catalogue a b i) (sym found.2) (prefix.0, prefix.1, prefix.2)
+      let head : Head = found.0 in
+      let prefix = rb.prefix head found.1 in
+      subst (λ (i : SlotInfo). IsTablesOf catalogue a b i) (sym found.2) (prefix.0, prefix.1, (head.form, refl, prefix.2))
 
   newest-tables : (newest : Option SlotInfo) → newest_among ra.state rb.state ≡ newest → (base : Tables) × (number : ℕ) × AreNewest catalogue a b newest base number
   newest-tables None e = (empty, 0, (refl, refl))
@@ -267,7 +281,7 @@ module _ (text : List ℕ) (catalogue : CatalogueState) (batches : List (List Tx
 placed : (text : List ℕ) (catalogue : CatalogueState) (batches : List (List Txn)) (image : List ℕ) (read : IsReadable text catalogue batches image) (state : SlotState) → read.state ≡ state → IsPlaced text batches state
 placed text catalogue batches image read Empty is = tt
 placed text catalogue batches image read Closed is = tt
-placed text catalogue batches image read (Open head) is = (read.prefix head is).3
+placed text catalogue batches image read (Open head) is = let prefix = read.prefix head is in (prefix.3, prefix.4)
 
 pub is-stored : (text : List ℕ) (catalogue : CatalogueState) (history : List Txn) (least : ℕ) (images : Images) → StandsFor text catalogue history least images → (stored : Stored) × IsStored images stored
 is-stored text catalogue history least images is =

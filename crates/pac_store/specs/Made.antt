@@ -2,7 +2,8 @@
 use Rattle.std.specs.Prelude.{◌≡◌, ◌<◌, ℕ, List, [], ◌∷◌, ◌++◌, length, codes}
 use Rattle.pac_outside.specs.Disk.{DiskHistory, settled}
 use Rattle.pac_outside.specs.declared.devices.Devices.{Devices}
-use Rattle.pac_log.specs.Logs.{header_bytes}
+use Rattle.pac_log.specs.Logs.{header_bytes, header_with}
+use Rattle.pac_log.specs.declared.header.HeaderForm.TheVariants.{First}
 use Rattle.pac_log.specs.declared.errors.CreateError.{CreateError}
 use Rattle.pac_log.specs.declared.errors.CreateError.TheVariants as log
 use Rattle.pac_store.specs.declared.device.DeviceName.{DeviceName}
@@ -32,7 +33,7 @@ IsFirstInUse SlotB n devices = (0 < n) × (HasLength 0 devices.log × HasLength 
 
 -- The store of a catalogue's text: a crash leaves of the log the header and a closed gate, and of each slot the one byte 0.
 abbrev pub IsNewStore : List ℕ → Devices DiskHistory → Type 0
-IsNewStore text devices = (devices.log.now ≡ settled (header_bytes text ++ 0 ∷ []))
+IsNewStore text devices = (devices.log.now ≡ settled (header_bytes (header_with First text) ++ 0 ∷ []))
     × (devices.slot_a.now ≡ settled (0 ∷ [])) × (devices.slot_b.now ≡ settled (0 ∷ []))
 
 -- it was made on empty devices

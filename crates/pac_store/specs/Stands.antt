@@ -8,9 +8,11 @@ use Rattle.pac_outside.specs.GateByte.{IsShut}
 use Rattle.pac_types.specs.Execution.{serial}
 use Rattle.pac_types.specs.Fits.{FitTables, TxnFits}
 use Rattle.pac_types.specs.Typing.{CatalogueState}
-use Rattle.pac_log.specs.Logs.{HoldsLog, HasGate, all_txns}
+use Rattle.pac_log.specs.Logs.{HoldsLog, HasGate, all_txns, header_with}
+use Rattle.pac_log.specs.declared.header.HeaderForm.TheVariants.{First}
+use Rattle.pac_outside.specs.declared.devices.LogName.TheVariants.{Log}
 use Rattle.pac_check.specs.declared.head.Head.{Head}
-use Rattle.pac_check.specs.Checkpoints.{Checkpoint}
+use Rattle.pac_check.specs.Checkpoints.{Checkpoint, segment_in}
 use Rattle.pac_check.specs.SlotStates.{HoldsCheckpoint, HoldsRows}
 use Rattle.pac_store.specs.Images.{Images}
 
@@ -24,27 +26,28 @@ pub record IsHistory (catalogue : CatalogueState) (history : List Txn) : Type 0 
   pub held : Tables
   pub ends : EndsWith catalogue history held
 
--- a slot is open with a checkpoint of a log's prefix: at the offset of a gate, with the number of the transactions before it,
+-- a slot is open with a checkpoint of a log's prefix, which names the first log device: at the offset of a gate, with the number of the transactions before it,
 -- and the tables with which serial execution of these ends
 pub record HoldsPrefix (text : List ℕ) (catalogue : CatalogueState) (batches : List (List Txn)) (image : List ℕ) : Type 0 where
   pub head : Head
   pub held : Tables
   pub fit : FitTables catalogue.tables held
   pub rows : HoldsRows catalogue.tables head held image
-  pub gate : HasGate text batches head.place head.txns
+  pub names : segment_in head.form ≡ Log
+  pub gate : HasGate (header_with First text) batches head.place head.txns
   pub ends : EndsWith catalogue (take head.txns (all_txns batches)) held
 
 -- a slot's device has a byte; the slot is closed, or open with a checkpoint of the log's prefix
 abbrev pub IsShutOrPrefix : List ℕ → CatalogueState → List (List Txn) → List ℕ → Type 0
 IsShutOrPrefix text catalogue batches image = IsShut [] image ⊎ HoldsPrefix text catalogue batches image
 
--- The devices stand for a history of at least that many transactions: the log is one of this catalogue's text and has no
--- damage, its transactions are the first of the history, at least that many, and each slot is closed, or open with a
+-- The devices stand for a history of at least that many transactions: the log is one of the first form, of this catalogue's
+-- text, and has no damage, its transactions are the first of the history, at least that many, and each slot is closed, or open with a
 -- checkpoint of the log's prefix.
 pub record StandsFor (text : List ℕ) (catalogue : CatalogueState) (history : List Txn) (least : ℕ) (images : Images) : Type 0 where
   pub executes : IsHistory catalogue history
   pub batches : List (List Txn)
-  pub log : HoldsLog text catalogue batches images.log
+  pub log : HoldsLog (header_with First text) catalogue batches images.log
   pub later : List Txn
   pub prefix : history ≡ all_txns batches ++ later
   pub enough : least ≤ length (all_txns batches)

@@ -5,13 +5,14 @@ use Rattle.pac_value.specs.State.{Tables}
 use Rattle.pac_ops.specs.declared.transaction.Txn.{Txn}
 use Rattle.pac_types.specs.Fits.{FitTables}
 use Rattle.pac_types.specs.Typing.{CatalogueState}
-use Rattle.pac_log.specs.Logs.{HoldsLog, HasGate, all_txns}
+use Rattle.pac_log.specs.Logs.{HoldsLog, HasGate, all_txns, header_with}
+use Rattle.pac_log.specs.declared.header.HeaderForm.TheVariants.{First}
+use Rattle.pac_outside.specs.declared.devices.LogName.TheVariants.{Log}
 use Rattle.pac_check.specs.declared.info.SlotInfo.{SlotInfo}
-use Rattle.pac_check.specs.declared.info.SlotName.TheVariants.{A, B}
 use Rattle.pac_check.specs.declared.state.SlotState.{SlotState}
 use Rattle.pac_check.specs.declared.state.SlotState.TheVariants.{Empty, Closed, Open}
-use Rattle.pac_check.specs.Checkpoints.{head_with}
-use Rattle.pac_check.specs.SlotStates.{by_slot, info_of, with_more, IsSlot, HoldsRows}
+use Rattle.pac_check.specs.Checkpoints.{segment_in}
+use Rattle.pac_check.specs.SlotStates.{by_slot, newest_among, HoldsInfo, IsSlot}
 use Rattle.pac_store.specs.Images.{Images}
 
 -- a catalogue, tables and how many transactions are in them, and the transactions after these
@@ -21,27 +22,23 @@ pub record Stored : Type 0 where
   pub number : ℕ
   pub rest : List Txn
 
--- the open slot with the greater number of transactions, slot a where they are equal
-abbrev pub newest_among : SlotState → SlotState → Option SlotInfo
-newest_among a b = with_more (info_of A a) (info_of B b)
-
 -- the tables and the number of the newest open slot, which is one of these two; no rows and 0 where none is open
 abbrev pub AreNewest : CatalogueState → List ℕ → List ℕ → Option SlotInfo → Tables → ℕ → Type 0
 AreNewest catalogue a b None base number = (base ≡ empty) × (number ≡ 0)
-AreNewest catalogue a b (Some info) base number = FitTables catalogue.tables base × HoldsRows catalogue.tables (head_with info.txns info.place) base (by_slot info.slot a b) × (number ≡ info.txns)
+AreNewest catalogue a b (Some info) base number = FitTables catalogue.tables base × HoldsInfo catalogue.tables info base (by_slot info.slot a b) × (number ≡ info.txns)
 
--- an open slot is at a gate of the log, with exactly as many transactions before it
+-- an open slot names the first log device, and is at a gate of the log, with exactly as many transactions before it
 abbrev pub IsPlaced : List ℕ → List (List Txn) → SlotState → Type 0
 IsPlaced text batches Empty = Unit {0}
 IsPlaced text batches Closed = Unit {0}
-IsPlaced text batches (Open head) = HasGate text batches head.place head.txns
+IsPlaced text batches (Open head) = (segment_in head.form ≡ Log) × HasGate (header_with First text) batches head.place head.txns
 
--- What is stored: the catalogue of the log, the tables and the number of the newest open slot, and the log's transactions
+-- What is stored: the catalogue of the log, which is one of the first form, the tables and the number of the newest open slot, and the log's transactions
 -- after that many, up to the first gate that is closed. Each open slot is at a gate.
 pub record IsStored (images : Images) (stored : Stored) : Type 0 where
   pub text : List ℕ
   pub batches : List (List Txn)
-  pub log : HoldsLog text stored.catalogue batches images.log
+  pub log : HoldsLog (header_with First text) stored.catalogue batches images.log
   pub a : SlotState
   pub b : SlotState
   pub is_a : IsSlot stored.catalogue.tables a images.slot_a

@@ -36,7 +36,7 @@ use Rattle.pac_types.specs.Unrolled.{Branch, End, Op, UnrolledSteps, Unrolling, 
 use Rattle.pac_types.proofs.StmtForms.{at-Read, at-Put, at-If}
 use Rattle.pac_types.specs.Typing.{CatalogueState}
 use Rattle.pac_script.specs.BankText.{bank_text}
-use Rattle.pac_script.proofs.OneScript.{one_catalogue}
+use Rattle.pac_flat.proofs.OneAcceptance.{one_catalogue}
 use Rattle.pac_script.specs.Stress.{deposit, family, mixed, number, stress_txn, transfer}
 use Rattle.pac_stress.specs.BankCatalogue.{bank_catalogue, deposit_proc, transfer_proc}
 use Rattle.pac_stress.specs.Stressed.{AbortsStress, stress_outcome}

@@ -11,7 +11,7 @@ use Rattle.pac_commute.specs.PlanLaws.{numbers_of, planned}
 use Rattle.pac_types.specs.Fits.{shape}
 use Rattle.pac_types.specs.Typing.{CatalogueState}
 use Rattle.pac_flat.specs.FlatForm.{program_of}
-use Rattle.pac_script.proofs.OneScript.{one_catalogue}
+use Rattle.pac_flat.proofs.OneAcceptance.{one_catalogue}
 use Rattle.pac_script.specs.BankText.{bank_text}
 use Rattle.pac_stress.specs.StressBatches.{stress_batches}
 use Rattle.pac_stress.specs.Stressed.{AbortsStress, HavePieces, IsSummaryOf, stress_outcome}

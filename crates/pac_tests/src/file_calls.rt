@@ -118,6 +118,33 @@ fn a_file_that_another_wrote_meanwhile_is_left_alone(rt: HostRuntime) {
     assert!(rt; still_has_its_byte(&recording));
 }
 
+// The answers of a sync before the file is removed, of one after that, and of a disk that read the file before.
+fn syncs_around_removal(
+    recorder: &Recorder,
+    recording: &Recording<'_>,
+    is_exchanged: bool,
+) -> [bool; 3] {
+    let mut reader = FileDisk::new(recording, LOG);
+    let mut disk = FileDisk::new(recording, LOG);
+    let before = disk.write_at(0, b"a") == Ok(()) && disk.sync() == Ok(());
+    let is_read = reader.len() == Ok(1) && recorder.remove(LOG, is_exchanged).is_ok();
+    let after = disk.sync() == Ok(());
+    [before && is_read, after, reader.sync() == Ok(())]
+}
+
+// Who syncs a file that stands no longer at its path would promise what nobody finds there.
+#[test]
+fn no_sync_succeeds_of_a_file_that_was_removed_or_exchanged(rt: HostRuntime) {
+    for is_exchanged in [false, true] {
+        let recorder = Recorder::new(rt.alloc(), usize::MAX, 0);
+        let recording = Recording {
+            recorder: &recorder,
+        };
+        let answers = syncs_around_removal(&recorder, &recording, is_exchanged);
+        assert_eq!(rt; answers, [true, false, false]);
+    }
+}
+
 // Whether a file is written, and how many of three syncs of it succeed.
 fn write_and_three_syncs(recording: &Recording<'_>) -> (bool, u32) {
     let mut disk = FileDisk::new(recording, LOG);

@@ -1,6 +1,10 @@
 // A disk over a file: what the system's calls give.
-use pac_outside::{Disk, Failed, FileCalls, FileDisk, open_after, read_piece};
-use std::fs;
+use pac_outside::{
+    Disk, Failed, FileCalls, FileDisk, FileId, FileSystem, OpenMode, PathKind, open_after,
+    read_piece,
+};
+use std::fs::{self, File};
+use std::io;
 use std::os::unix::fs::symlink;
 use std::test::Fail;
 
@@ -124,6 +128,37 @@ fn only_plain_files_are_opened(rt: HostRuntime) -> Result<(), Fail> {
     assert!(rt; fails);
     fs::remove_file(&rt, LINK)?;
     Ok(())
+}
+
+// A system in which a folder comes to stand at each path between the question what stands there and the opening.
+#[derive(Clone, Copy)]
+struct Exchanging<'a> {
+    rt: &'a HostRuntime,
+}
+
+impl<'a> FileSystem for Exchanging<'a> {
+    type File = File;
+
+    fn kind(&self, _path: &str) -> io::Result<PathKind> {
+        Ok(PathKind::Plain(FileId {
+            device: 0,
+            number: 0,
+        }))
+    }
+
+    fn open(&self, _path: &str, _mode: OpenMode) -> io::Result<File> {
+        self.rt.open(".", OpenMode::Read)
+    }
+}
+
+fn refuses_what_was_opened(system: &Exchanging<'_>) -> bool {
+    let mut disk = FileDisk::new(system, LOG);
+    disk.len() == Err(Failed) && disk.write_at(0, b"a") == Err(Failed)
+}
+
+#[test]
+fn what_was_opened_is_asked_for_its_kind(rt: HostRuntime) {
+    assert!(rt; refuses_what_was_opened(&Exchanging { rt: &rt }));
 }
 
 // Whether no write comes to a file whose folder isn't there.

@@ -31,4 +31,6 @@ mod streams;
 #[cfg(test)]
 mod tokens;
 #[cfg(test)]
+mod window_counts;
+#[cfg(test)]
 mod windows;

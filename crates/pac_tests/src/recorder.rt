@@ -1,5 +1,5 @@
 // Files in memory that note the calls on them.
-use pac_outside::{FileCalls, FileSystem, OpenMode, PathKind};
+use pac_outside::{FileCalls, FileId, FileSystem, OpenMode, PathKind};
 use std::alloc::Global;
 use std::cell::{Cell, RefCell};
 use std::io;
@@ -55,6 +55,20 @@ impl Recorder {
             }
             Err(_) => false,
         }
+    }
+
+    /// Removes the file, which stays with whoever has it open, and makes an empty one at its path where that is asked for.
+    pub fn remove(&self, path: &str, is_exchanged: bool) -> io::Result<()> {
+        let Some(number) = self.number_of(path)? else {
+            return Err(io::ErrorKind::NotFound.into());
+        };
+        let mut kept = self.kept.try_borrow_mut()?;
+        file_of(&mut kept.files, Some(number))?.path.clear();
+        drop(kept);
+        if is_exchanged {
+            self.make(path)?;
+        }
+        Ok(())
     }
 
     fn note(&self, line: &str) -> io::Result<()> {
@@ -117,7 +131,7 @@ impl<'a> FileSystem for Recording<'a> {
 
     fn kind(&self, path: &str) -> io::Result<PathKind> {
         match self.recorder.number_of(path)? {
-            Some(_) => Ok(PathKind::Plain),
+            Some(number) => Ok(numbered(number)),
             None if path == "." => Ok(PathKind::Other),
             None => Ok(PathKind::Missing),
         }
@@ -183,6 +197,10 @@ impl<'a> FileExt for Recorded<'a> {
 }
 
 impl<'a> FileCalls for Recorded<'a> {
+    fn kind(&self) -> io::Result<PathKind> {
+        Ok(self.number.map_or(PathKind::Other, numbered))
+    }
+
     fn len(&self) -> io::Result<u64> {
         let mut kept = self.recorder.kept.try_borrow_mut()?;
         Ok(file_of(&mut kept.files, self.number)?.bytes.len() as u64)
@@ -228,6 +246,14 @@ impl<'a> Drop for Recorded<'a> {
             }
         }
     }
+}
+
+// The kind of the file of this number.
+fn numbered(number: usize) -> PathKind {
+    PathKind::Plain(FileId {
+        device: 0,
+        number: number as u64,
+    })
 }
 
 // The file of this number.

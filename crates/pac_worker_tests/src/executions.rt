@@ -3,8 +3,7 @@ ghost use Rattle.std.specs.Prelude.{◌≡◌, ◌≤◌, IfOk, length};
 
 use pac_base::{NoMemory, listed};
 use pac_core::execute;
-use pac_ops::{Batch, Change, Records, TableTypes, Txn, Txns};
-use pac_outside::OpenGate;
+use pac_ops::{Batch, Change, OpenGate, Records, TableTypes, Txn, Txns};
 use pac_plan::{Plan, PlanParts};
 use pac_tables::{OrderedRows, Rows};
 use pac_value::{Key, Row, Ty, Value};

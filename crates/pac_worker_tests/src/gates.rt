@@ -1,6 +1,6 @@
 // Gates that tell who passed.
 use pac_base::NoMemory;
-use pac_outside::Gate;
+use pac_ops::Gate;
 use std::alloc::Global;
 use std::sync::Arc;
 use std::sync::atomic::{AtomicU64, Ordering};

@@ -4,7 +4,7 @@ use crate::executions::leaves_the_last;
 use crate::feeds::{AfterFeed, fed};
 use crate::gates::{Counting, Logging, Meeting};
 use pac_base::NoMemory;
-use pac_outside::OpenGate;
+use pac_ops::OpenGate;
 use pac_workers::replay;
 use std::alloc::Global;
 use std::sync::Wait;

@@ -8,7 +8,7 @@ use Rattle.atomic_table.specs.declared.shared.Seat.{Seat}
 use Rattle.pac_workers.specs.Shown.{Tells, with_each}
 
 -- between these states a feed gave these batches, and what its type says is known of that
-pub record HasGiven {F : Type 0} (so_far : F → List Batch) (gives : F → List Batch → F → Type 0) (old : F) (batches : List Batch) (new : F) : Type 0 where
+pub record HasFed {F : Type 0} (so_far : F → List Batch) (gives : F → List Batch → F → Type 0) (old : F) (batches : List Batch) (new : F) : Type 0 where
   pub added : so_far new ≡ so_far old ++ batches
   pub known : gives old batches new
 

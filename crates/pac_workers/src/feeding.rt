@@ -3,7 +3,7 @@ ghost use Rattle.std.specs.Prelude.{◌≡◌, ◌+◌, ◌^◌, ◌<◌, List, 
 ghost use Rattle.std.specs.List.{AllByRecursion};
 ghost use Rattle.pac_ops.specs.declared.batch.Batch.{Batch as ABatch};
 ghost use Rattle.pac_ops.specs.Shapes.{TxnFitsTypes};
-ghost use Rattle.pac_workers.specs.Fed.{HasGiven};
+ghost use Rattle.pac_workers.specs.Fed.{HasFed};
 ghost use Rattle.pac_workers.specs.Shown.{IsFed, Tells, TellsMore};
 
 use crate::feed::Feed;
@@ -72,8 +72,8 @@ pub(crate) fn feed_all<M: Loads, L: Lent, F: Feed, H: Wait>(
 ) -> Result<(), NoMemory>
     requires pair { pair.now ≡ L.pair }
     requires mine { (all : M) × Tells M.job M.is_closed L.pair all false mine.old × (F.next_txn feed.old ≡ M.next_txn all) × (F.params feed.old ≡ M.params all) × (F.tables feed.old ≡ M.tables all) }
-    ensures given { (batches : List ABatch) × HasGiven F.so_far F.gives feed.old batches feed.new }
-    ensures fed { (all : M) → Tells M.job M.is_closed L.pair all false mine.old → OnOk result (IsFed (HasGiven F.so_far F.gives) M.job M.is_closed M.with_batch L.pair all true feed.old feed.new mine.new) }
+    ensures given { (batches : List ABatch) × HasFed F.so_far F.gives feed.old batches feed.new }
+    ensures fed { (all : M) → Tells M.job M.is_closed L.pair all false mine.old → OnOk result (IsFed (HasFed F.so_far F.gives) M.job M.is_closed M.with_batch L.pair all true feed.old feed.new mine.new) }
     ensures over { OnOk result (F.is_over feed.new ≡ true) }
     ensures types { (F.params feed.new ≡ F.params feed.old) × (F.tables feed.new ≡ F.tables feed.old) }
 {

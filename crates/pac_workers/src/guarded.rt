@@ -10,8 +10,7 @@ use crate::machine::{Machine, Taken};
 use crate::tally::{Lent, Tally};
 use crate::twins::Twin;
 use pac_base::NoMemory;
-use pac_ops::PieceId;
-use pac_outside::Gate;
+use pac_ops::{Gate, PieceId};
 use std::sync::ledger::Book;
 
 /// The most pieces that are taken in one hold of the lock.

@@ -3,7 +3,7 @@ ghost use Rattle.std.specs.Prelude.{◌≡◌, All};
 
 use crate::machine::Machine;
 use pac_base::NoMemory;
-use pac_outside::Gate;
+use pac_ops::Gate;
 use std::alloc::Global;
 use std::collections::VecDeque;
 

@@ -8,7 +8,7 @@
 //!   that [`Loads`]. A feed says which batches it gave so far; it may keep them as a [`GhostList`], which has no bytes.
 //!
 //! ```
-//! use pac_outside::OpenGate;
+//! use pac_ops::OpenGate;
 //! use pac_workers::replay;
 //!
 //! let replayed = replay(rt, alloc, 4, machine, &OpenGate)?;

@@ -2,7 +2,7 @@
 ghost use Rattle.std.specs.Prelude.{◌≡◌, ◌+◌, ◌<◌, ◌≤◌, List, false, true, IfOk, OnOk, length, map, sum, vec_capacity, vec_len};
 ghost use Rattle.pac_ops.specs.declared.batch.Batch.{Batch as ABatch};
 ghost use Rattle.pac_workers.specs.Twins.{IsShown};
-ghost use Rattle.pac_workers.specs.Fed.{HasGiven};
+ghost use Rattle.pac_workers.specs.Fed.{HasFed};
 ghost use Rattle.pac_workers.specs.Shown.{IsFed, IsJobFed, Tells, TellsJob};
 
 use crate::feed::Feed;
@@ -13,7 +13,7 @@ use crate::tally::{Lent, Tally, counts_of, tallies_of};
 use crate::twins::{Pair, Twin};
 use crate::worker::{Monitor, run_worker};
 use pac_base::{Listed, NoMemory};
-use pac_outside::Gate;
+use pac_ops::Gate;
 use std::alloc::Global;
 use std::marker::Brand;
 use std::sync::ledger::{Blank, Share};
@@ -83,10 +83,10 @@ pub fn replay_feed<M: Loads + Send, F: Feed, G: Gate + Sync, H: Threads + Wait +
     requires workers { 1 ≤ workers }
     requires next { F.next_txn feed.old ≡ M.next_txn (M.job machine) }
     requires types { (F.params feed.old ≡ M.params (M.job machine)) × (F.tables feed.old ≡ M.tables (M.job machine)) }
-    ensures given { (batches : List ABatch) × HasGiven F.so_far F.gives feed.old batches feed.new }
+    ensures given { (batches : List ABatch) × HasFed F.so_far F.gives feed.old batches feed.new }
     ensures closed { IfOk result (λ r. M.is_closed r.machine ≡ true) }
     ensures finished { IfOk result (λ r. M.left r.machine ≡ 0) }
-    ensures job { IfOk result (λ r. IsJobFed (HasGiven F.so_far F.gives) M.with_batch (M.job machine) feed.old feed.new (M.job r.machine)) }
+    ensures job { IfOk result (λ r. IsJobFed (HasFed F.so_far F.gives) M.with_batch (M.job machine) feed.old feed.new (M.job r.machine)) }
     ensures tallies { IfOk result (λ r. length r.tallies ≡ workers) }
     ensures counted { IfOk result (λ r. sum r.tallies + r.drained + M.size (M.job machine) ≡ M.left machine + M.size (M.job r.machine)) }
     ensures over { OnOk result (F.is_over feed.new ≡ true) }
@@ -163,11 +163,11 @@ fn feed_as<
     requires mine { Tells M.job M.is_closed L.pair (M.job machine) false mine.old }
     requires next { F.next_txn feed.old ≡ M.next_txn (M.job machine) }
     requires types { (F.params feed.old ≡ M.params (M.job machine)) × (F.tables feed.old ≡ M.tables (M.job machine)) }
-    ensures given { (batches : List ABatch) × HasGiven F.so_far F.gives feed.old batches feed.new }
+    ensures given { (batches : List ABatch) × HasFed F.so_far F.gives feed.old batches feed.new }
     ensures closed { IfOk result (λ r. M.is_closed r.0.machine ≡ true) }
     ensures finished { IfOk result (λ r. M.left r.0.machine ≡ 0) }
     ensures told { IfOk result (λ r. TellsJob M.job L.pair (M.job r.0.machine) r.1) }
-    ensures fed { OnOk result (IsFed (HasGiven F.so_far F.gives) M.job M.is_closed M.with_batch L.pair (M.job machine) true feed.old feed.new mine.new) }
+    ensures fed { OnOk result (IsFed (HasFed F.so_far F.gives) M.job M.is_closed M.with_batch L.pair (M.job machine) true feed.old feed.new mine.new) }
     ensures tallies { IfOk result (λ r. length r.0.tallies ≡ workers) }
     ensures counted { IfOk result (λ r. sum r.0.tallies + r.0.drained + L.size ≡ M.size (M.job r.0.machine) + L.left) }
     ensures over { OnOk result (F.is_over feed.new ≡ true) }
@@ -235,8 +235,8 @@ fn run_fed<
     requires pair { pair.now ≡ L.pair }
     requires mine { (all : M) × Tells M.job M.is_closed L.pair all false mine.old × (F.next_txn feed.old ≡ M.next_txn all) × (F.params feed.old ≡ M.params all) × (F.tables feed.old ≡ M.tables all) }
     ensures len { length tallies.new ≡ length tallies.old }
-    ensures given { (batches : List ABatch) × HasGiven F.so_far F.gives feed.old batches feed.new }
-    ensures fed { (all : M) → Tells M.job M.is_closed L.pair all false mine.old → OnOk result (IsFed (HasGiven F.so_far F.gives) M.job M.is_closed M.with_batch L.pair all true feed.old feed.new mine.new) }
+    ensures given { (batches : List ABatch) × HasFed F.so_far F.gives feed.old batches feed.new }
+    ensures fed { (all : M) → Tells M.job M.is_closed L.pair all false mine.old → OnOk result (IsFed (HasFed F.so_far F.gives) M.job M.is_closed M.with_batch L.pair all true feed.old feed.new mine.new) }
     ensures over { OnOk result (F.is_over feed.new ≡ true) }
     ensures types { (F.params feed.new ≡ F.params feed.old) × (F.tables feed.new ≡ F.tables feed.old) }
 {
@@ -246,8 +246,8 @@ fn run_fed<
         &mut || -> Result<(), NoMemory>
             requires pair { pair.now ≡ L.pair }
             requires mine { (all : M) × Tells M.job M.is_closed L.pair all false mine.now × (F.next_txn feed.now ≡ M.next_txn all) × (F.params feed.now ≡ M.params all) × (F.tables feed.now ≡ M.tables all) }
-            ensures given { (batches : List ABatch) × HasGiven F.so_far F.gives feed.entry.now batches feed.exit.now }
-            ensures fed { (all : M) → Tells M.job M.is_closed L.pair all false mine.entry.now → OnOk result (IsFed (HasGiven F.so_far F.gives) M.job M.is_closed M.with_batch L.pair all true feed.entry.now feed.exit.now mine.exit.now) }
+            ensures given { (batches : List ABatch) × HasFed F.so_far F.gives feed.entry.now batches feed.exit.now }
+            ensures fed { (all : M) → Tells M.job M.is_closed L.pair all false mine.entry.now → OnOk result (IsFed (HasFed F.so_far F.gives) M.job M.is_closed M.with_batch L.pair all true feed.entry.now feed.exit.now mine.exit.now) }
             ensures over { OnOk result (F.is_over feed.exit.now ≡ true) }
             ensures types { (F.params feed.exit.now ≡ F.params feed.entry.now) × (F.tables feed.exit.now ≡ F.tables feed.entry.now) }
         { feed_all(rt, monitor, pair, mine, feed) },

@@ -5,7 +5,7 @@ use crate::guarded::{Guarded, MAX_TAKEN, Next};
 use crate::hand::Hand;
 use crate::machine::Machine;
 use crate::tally::{Lent, Tally};
-use pac_outside::Gate;
+use pac_ops::Gate;
 use std::alloc::Global;
 use std::sync::{Condvar, Mutex, Wait};
 

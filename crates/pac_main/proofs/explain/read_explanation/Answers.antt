@@ -3,7 +3,7 @@ use Rattle.std.proofs.Common.{sym, subst, List, ℕ}
 use Rattle.std.proofs.lemmas.Result.{err_from_is_err_and}
 use Rattle.pac_main.specs.Causes.{GivesNoExplanation}
 use Rattle.pac_main.specs.Explained.{IsExplanation}
-use Rattle.pac_script.specs.Script.{IsUnaccepted}
+use Rattle.pac_flat.specs.Unaccepted.{IsUnaccepted}
 use Rattle.pac_main.specs.Streams.{observed}
 use Rattle.pac_main.proofs.InputLemmas.{if_err}
 use Rattle.pac_main.proofs.ExplainLemmas.{input-explained, catalogue-unread, no-explanation}

@@ -1,5 +1,5 @@
 -- What is loaded is what was read, and the first refusal is that of the part that was read.
-use Rattle.std.proofs.Common.{◌∙◌, ap}
+use Rattle.std.proofs.Common.{◌≡◌, ◌∙◌, ap, Err}
 use Rattle.std.proofs.lemmas.Result.{err_from_is_err_and}
 use Rattle.pac_log.specs.declared.position.NextGate.{NextGate}
 use Rattle.pac_check.specs.declared.slots.Slots.{Slots}
@@ -8,11 +8,12 @@ use Rattle.pac_outside.specs.Devices.{each}
 use Rattle.pac_store.specs.Stored.{IsStored}
 use Rattle.pac_store.proofs.ImageLemmas.{images-then}
 use Rattle.pac_recover.specs.declared.errors.Damage.TheVariants.{Log, Slot}
+use Rattle.pac_recover.specs.declared.errors.LoadError.{LoadError}
 use Rattle.pac_recover.specs.declared.errors.LoadError.TheVariants as load
 use Rattle.pac_recover.specs.Damages.{IsDamagedSlot}
 use Rattle.pac_recover.specs.Loading.{AreNewestOf, IsLoadedFrom, stored_of}
 use Rattle.pac_recover.specs.Logs.{HoldsWhole}
-use Rattle.pac_recover.proofs.CauseLemmas.{as-error, no-error, the-cause}
+use Rattle.pac_recover.proofs.CauseLemmas.{as-error, no-error, same-error, the-cause}
 use Rattle.pac_recover.proofs.LoadLemmas.{first-damage, loaded-stored, moved-known, reader-known, slot-known, three-same, known-never, known-together}
 use Rattle.pac_recover.proofs.loading.load.Goals as goal
 
@@ -70,3 +71,12 @@ pub returns-clause-slot_b : goal.returns-clause-slot_b
 returns-clause-slot_b g c =
     let slots = c.in_ok-slots.slots in
     slot-known c.in_ok-catalogue.catalogue c.in_ok-join_parts.field-0.catalogue slots.b c.in_ok-join_parts.field-0.slots.b _ c.in_ok-join_parts.ensures.catalogue (ap (λ (s : Slots). s.b) c.in_ok-join_parts.ensures.slots) c.in_ok-slots.ensures.b
+
+pub returns-in_err-tables-clause-quiet : goal.returns-in_err-tables-clause-quiet
+returns-in_err-tables-clause-quiet g c = λ no_fault.
+    let r = c.from_residual-in_err-tables in
+    let p = err_from_is_err_and r.result r.ensures.1 in
+    let known = λ (same : c.in_err-tables.field-0.0 ≡ load.DiskFault). no_fault (p.1 ∙ ap (λ (e : LoadError). Err e) (p.2 ∙ same)) in
+    three-same _ _ _ _ _ _ (c.in_ok-log.ensures.kept (no-error _ _))
+    (c.in_err-tables.ensures.quiet_a (λ fault. known (same-error c.in_err-tables.field-0.0 load.DiskFault fault)) ∙ c.in_ok-slots.ensures.quiet_a (no-error _ _))
+    (c.in_err-tables.ensures.quiet_b (λ fault. known (same-error c.in_err-tables.field-0.0 load.DiskFault fault)) ∙ c.in_ok-slots.ensures.quiet_b (no-error _ _))

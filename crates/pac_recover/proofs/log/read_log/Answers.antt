@@ -12,14 +12,14 @@ use Rattle.pac_recover.proofs.log.read_log.Goals as goal
 pub returns-in_err-reader-clause-damaged : goal.returns-in_err-reader-clause-damaged
 returns-in_err-reader-clause-damaged g c = λ at kind is.
     let p = err_from_is_err_and c.from_residual.result c.from_residual.ensures.1 in
-    absurd (c.in_err-reader.ensures.whole at kind (as-error _ _ (the-cause c.from_residual.result p.0 c.in_err-reader.field-0.0 (error.Damaged at kind) p.1 p.2 is)))
+    c.in_err-reader.ensures.damaged at kind (as-error _ _ (the-cause c.from_residual.result p.0 c.in_err-reader.field-0.0 (error.Damaged at kind) p.1 p.2 is))
 
 pub returns-in_err-batches-clause-damaged : goal.returns-in_err-batches-clause-damaged
 returns-in_err-batches-clause-damaged g c = λ at kind is.
     let r = c.from_residual-in_err-batches in
     let p = err_from_is_err_and r.result r.ensures.1 in
     let cause = the-cause r.result p.0 c.in_err-batches.field-0.0 (error.Damaged at kind) p.1 p.2 is in
-    damage-after c.in_ok-reader.reader.gate at kind (g.D.Disk.known c.args.disk.now) (g.D.Disk.known c.attach.new.disk) c.in_ok-reader.ensures.same c.in_ok-reader.ensures.store
+    damage-after c.in_ok-reader.reader.gate at kind (g.D.Disk.known c.args.disk.now) (g.D.Disk.known c.attach_first.new.disk) c.in_ok-reader.ensures.same c.in_ok-reader.ensures.store
     (c.in_err-batches.ensures.damaged at kind (as-error _ _ cause))
 
 pub returns-clause-holds : goal.returns-clause-holds

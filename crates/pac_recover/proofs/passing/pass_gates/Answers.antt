@@ -71,7 +71,7 @@ loop-preserved g c =
     let more = more-txns mid new batch next in
     let here = ap (λ (q : GatePlace). q.txns) (c.gate_place.ensures ∙ ap (λ (gate : NextGate). place_of gate) c.gate.ensures) in
     record {
-      first = same-first c.next_batch.new.self c.loop.reader (ap (λ (gate : NextGate). gate.catalogue) next.gate) c.in_ok-next_batch.ensures.first ∙ c.loop.invariant.first;
+      first = same-first c.next_batch.new.self c.loop.reader (ap (λ (gate : NextGate). gate.catalogue) next.gate) c.in_ok-next_batch.ensures.headed ∙ c.loop.invariant.first;
       counted = omega (arith, c.loop.invariant.counted, more);
       few = subst (λ (l : List GatePlace). AreAtMost new.txns l) (sym c.in_ok-push.ensures.items)
           (at-most-push mid.txns new.txns c.loop.gates.items c.gate_place.result c.loop.invariant.few (omega (arith, more)) (omega (arith, more, here)));

@@ -1,6 +1,8 @@
 -- The gates before the next one, of the batches so far; each batch has a transaction.
 use Rattle.std.proofs.Common.{◌≡◌, ◌≤◌, ℕ, List, []}
 use Rattle.pac_outside.specs.Disk.{IfKnown}
+use Rattle.pac_log.specs.Logs.{header_with}
+use Rattle.pac_log.specs.declared.header.HeaderForm.TheVariants.{First}
 use Rattle.pac_log.specs.Readers.{at_first}
 use Rattle.pac_log.specs.Reading.{StandsAfter}
 use Rattle.pac_recover.specs.Passing.{AreAtMost}
@@ -12,7 +14,7 @@ invariant-loop g l = record {
   first : at_first l.reader ≡ at_first l.fn.reader;
   counted : l.counter ≤ l.reader.gate.txns;
   few : AreAtMost l.reader.gate.txns l.gates.items;
-  passes : (text : List ℕ) → IfKnown (λ old. StandsAfter text [] l.fn.reader.gate old.now.seen → IsPassing text l.reader.gate l.gates.items old.now.seen) (g.D.Disk.known l.fn.disk);
+  passes : (text : List ℕ) → IfKnown (λ old. StandsAfter (header_with First text) [] l.fn.reader.gate old.now.seen → IsPassing text l.reader.gate l.gates.items old.now.seen) (g.D.Disk.known l.fn.disk);
   same : g.D.Disk.known l.disk ≡ g.D.Disk.known l.fn.disk;
   quiet : g.D.Disk.faults l.disk ≡ g.D.Disk.faults l.fn.disk;
 }

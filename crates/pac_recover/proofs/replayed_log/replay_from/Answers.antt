@@ -2,6 +2,8 @@
 use Rattle.std.proofs.Common.{◌∙◌, [], Bool, true, false, Option, subst}
 use Rattle.std.proofs.lemmas.Result.{err_from_is_err_and}
 use Rattle.pac_outside.specs.Disk.{DiskHistory, IfKnown}
+use Rattle.pac_log.specs.Logs.{header_with}
+use Rattle.pac_log.specs.declared.header.HeaderForm.TheVariants.{First}
 use Rattle.pac_log.specs.declared.errors.LogError.TheVariants as error
 use Rattle.pac_log.specs.Reading.{StandsAfter}
 use Rattle.pac_recover.specs.declared.gates.GatePlace.{GatePlace}
@@ -24,8 +26,8 @@ returns-then-not-is_there-clause-replayed g c = λ text.
     let reached = c.in_ok-is_there.gates.items in
     let known = g.D.Disk.known c.args.disk.now in
     replay-absent text c.args.cat.now old mid c.args.tables.rows _ reached c.args.info known (c.in_ok-is_there.ensures.catalogue ∙ c.requires.same)
-    (subst (λ (q : GatePlace). IfKnown (λ (h : DiskHistory). StandsAfter text [] old h.now.seen → HasSkipped text q false mid reached h.now.seen) known) c.place_in.ensures
-    (subst (λ (b : Bool). IfKnown (λ (h : DiskHistory). StandsAfter text [] old h.now.seen → HasSkipped text c.place_in.result b mid reached h.now.seen) known) c.if-not-is_there.true (c.in_ok-is_there.ensures.skipped text)))
+    (subst (λ (q : GatePlace). IfKnown (λ (h : DiskHistory). StandsAfter (header_with First text) [] old h.now.seen → HasSkipped text q false mid reached h.now.seen) known) c.place_in.ensures
+    (subst (λ (b : Bool). IfKnown (λ (h : DiskHistory). StandsAfter (header_with First text) [] old h.now.seen → HasSkipped text c.place_in.result b mid reached h.now.seen) known) c.if-not-is_there.true (c.in_ok-is_there.ensures.skipped text)))
 
 pub returns-in_err-replayed-clause-damaged : goal.returns-in_err-replayed-clause-damaged
 returns-in_err-replayed-clause-damaged g c = λ at kind is text.
@@ -48,7 +50,7 @@ returns-clause-replayed g c = λ text.
     let replayed = c.in_ok-replayed.replayed in
     let gates = c.replay_rest.new.gates.items in
     replay-there text c.args.cat.now old new c.args.tables.rows replayed gates mid c.args.info reached known
-    (subst (λ (q : GatePlace). IfKnown (λ (h : DiskHistory). StandsAfter text [] old h.now.seen → HasSkipped text q true mid reached h.now.seen) known) c.place_in.ensures
-    (subst (λ (b : Bool). IfKnown (λ (h : DiskHistory). StandsAfter text [] old h.now.seen → HasSkipped text c.place_in.result b mid reached h.now.seen) known) c.if-not-is_there.false (c.in_ok-is_there.ensures.skipped text)))
+    (subst (λ (q : GatePlace). IfKnown (λ (h : DiskHistory). StandsAfter (header_with First text) [] old h.now.seen → HasSkipped text q true mid reached h.now.seen) known) c.place_in.ensures
+    (subst (λ (b : Bool). IfKnown (λ (h : DiskHistory). StandsAfter (header_with First text) [] old h.now.seen → HasSkipped text c.place_in.result b mid reached h.now.seen) known) c.if-not-is_there.false (c.in_ok-is_there.ensures.skipped text)))
     (λ before. subst (λ (t : Option DiskHistory). IfKnown (λ h. HasGatesTo text before mid reached h.now.seen → IsRestOf text c.args.cat.now before mid new c.args.tables.rows replayed gates h.now.seen) t) c.in_ok-is_there.ensures.same
     (c.in_ok-replayed.ensures.rest text before))

@@ -3,7 +3,8 @@ use Rattle.std.proofs.Common.{◌≡◌, ◌+◌, ◌++◌, ℕ, Option, subst}
 use Rattle.std.proofs.lemmas.Result.{err_from_is_err_and}
 use Rattle.pac_outside.specs.Disk.{DiskHistory, IfKnown}
 use Rattle.pac_types.specs.Execution.{serial}
-use Rattle.pac_log.specs.Logs.{HoldsLog, all_txns}
+use Rattle.pac_log.specs.declared.header.HeaderForm.TheVariants.{First}
+use Rattle.pac_log.specs.Logs.{HoldsLog, all_txns, header_with}
 use Rattle.pac_log.specs.Places.{IsAfter}
 use Rattle.pac_recover.specs.declared.errors.Damage.TheVariants.{Log, Slot}
 use Rattle.pac_recover.specs.declared.errors.LoadError.TheVariants as load
@@ -33,7 +34,7 @@ returns-clause-outcome g c =
     let base = c.args.tables.rows in
     ok-by c.replay_windows.result c.replay_windows.ensures.outcome (λ executed says text batches.
     sought-outcome text batches c.args.newest old mid cat c.requires.same (outcome_of executed) base (g.D.Disk.known c.args.disk.now) (c.in_ok-seek.ensures.sought text batches)
-    (λ t b a. subst (λ (k : Option DiskHistory). IfKnown (λ h. HoldsLog t cat (b ++ a) h.now.seen → IsAfter t b mid → outcome_of executed ≡ serial cat.procs (mid.txns + 1) (all_txns a) base) k) c.in_ok-seek.ensures.same (says t b a)))
+    (λ t b a. subst (λ (k : Option DiskHistory). IfKnown (λ h. HoldsLog (header_with First t) cat (b ++ a) h.now.seen → IsAfter (header_with First t) b mid → outcome_of executed ≡ serial cat.procs (mid.txns + 1) (all_txns a) base) k) c.in_ok-seek.ensures.same (says t b a)))
 
 pub returns-clause-log_damage : goal.returns-clause-log_damage
 returns-clause-log_damage g c = λ at kind is text batches.
@@ -41,7 +42,7 @@ returns-clause-log_damage g c = λ at kind is text batches.
     let mid = c.seek.new.reader.gate in
     let cat = c.args.cat.now in
     sought-whole text batches c.args.newest old mid cat c.requires.same (g.D.Disk.known c.args.disk.now) (c.in_ok-seek.ensures.sought text batches)
-    (λ t b a. subst (λ (k : Option DiskHistory). IfKnown (λ h. HoldsLog t cat (b ++ a) h.now.seen → IsAfter t b mid → ⊥) k) c.in_ok-seek.ensures.same (c.replay_windows.ensures.log_damage at kind is t b a))
+    (λ t b a. subst (λ (k : Option DiskHistory). IfKnown (λ h. HoldsLog (header_with First t) cat (b ++ a) h.now.seen → IsAfter (header_with First t) b mid → ⊥) k) c.in_ok-seek.ensures.same (c.replay_windows.ensures.log_damage at kind is t b a))
 
 pub returns-clause-slot_damage : goal.returns-clause-slot_damage
 returns-clause-slot_damage g c = λ slot at kind is. absurd (c.replay_windows.ensures.slot_damage slot at kind is)

@@ -2,6 +2,8 @@
 use Rattle.std.proofs.Common.{◌∙◌, [], Bool, sym, subst}
 use Rattle.std.proofs.lemmas.Result.{err_from_is_err_and}
 use Rattle.pac_outside.specs.Disk.{DiskHistory, IfKnown}
+use Rattle.pac_log.specs.Logs.{header_with}
+use Rattle.pac_log.specs.declared.header.HeaderForm.TheVariants.{First}
 use Rattle.pac_log.specs.Reading.{StandsAfter}
 use Rattle.pac_recover.specs.declared.errors.Damage.TheVariants.{Log}
 use Rattle.pac_recover.specs.declared.errors.LoadError.TheVariants as load
@@ -27,7 +29,7 @@ returns-then-not-is_there-clause-slot_damage g c = λ slot at kind is text batch
     let gates = c.in_ok-is_there.gates.items in
     let known = g.D.Disk.known c.args.disk.now in
     sought-absent c.args.newest c.in-Some.info old mid c.place_in.result gates text batches known c.in-Some.is c.place_in.ensures
-    (subst (λ (b : Bool). IfKnown (λ (h : DiskHistory). StandsAfter text [] old h.now.seen → HasSkipped text c.place_in.result b mid gates h.now.seen) known) c.if-not-is_there.true (c.in_ok-is_there.ensures.skipped text))
+    (subst (λ (b : Bool). IfKnown (λ (h : DiskHistory). StandsAfter (header_with First text) [] old h.now.seen → HasSkipped text c.place_in.result b mid gates h.now.seen) known) c.if-not-is_there.true (c.in_ok-is_there.ensures.skipped text))
 
 pub returns-clause-sought : goal.returns-clause-sought
 returns-clause-sought g c = λ text batches.
@@ -36,4 +38,4 @@ returns-clause-sought g c = λ text batches.
     let gates = c.in_ok-is_there.gates.items in
     let known = g.D.Disk.known c.args.disk.now in
     sought-there c.args.newest c.in-Some.info old mid c.place_in.result gates text batches known c.in-Some.is c.place_in.ensures (c.in_ok-is_there.ensures.there c.if-not-is_there.false) c.in_ok-is_there.ensures.catalogue
-    (subst (λ (b : Bool). IfKnown (λ (h : DiskHistory). StandsAfter text [] old h.now.seen → HasSkipped text c.place_in.result b mid gates h.now.seen) known) c.if-not-is_there.false (c.in_ok-is_there.ensures.skipped text))
+    (subst (λ (b : Bool). IfKnown (λ (h : DiskHistory). StandsAfter (header_with First text) [] old h.now.seen → HasSkipped text c.place_in.result b mid gates h.now.seen) known) c.if-not-is_there.false (c.in_ok-is_there.ensures.skipped text))

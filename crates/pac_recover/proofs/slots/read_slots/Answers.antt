@@ -28,8 +28,8 @@ returns-in_err-test_place-clause-damaged g c = λ slot at kind is.
     let r = c.from_residual-in_err-test_place in
     let p = err_from_is_err_and r.result r.ensures.1 in
     let made = c.in_err-test_place.ensures.err c.in_err-test_place.field-0.0 refl in
-    misplaced c.args.gates.now c.args.cat.now.tables A c.in_ok-slots.slots.a c.in_ok-slots.slots.b c.info.result made.0 c.info.ensures made.1 made.3 (λ b. absurd (not_b b))
-    c.in_err-test_place.field-0.0 made.2 slot at kind (the-cause r.result p.0 c.in_err-test_place.field-0.0 (load.Damaged (Slot slot at kind)) p.1 p.2 is)
+    misplaced c.args.gates.now c.args.cat.now.tables A c.in_ok-slots.slots.a c.in_ok-slots.slots.b c.info.result made.0 made.1 made.2 c.info.ensures made.3 made.5 (λ b. absurd (not_b b))
+    c.in_err-test_place.field-0.0 made.4 slot at kind (the-cause r.result p.0 c.in_err-test_place.field-0.0 (load.Damaged (Slot slot at kind)) p.1 p.2 is)
     (g.D.Disk.known c.args.a.now) (g.D.Disk.known c.args.b.now) c.in_ok-slots.ensures.a c.in_ok-slots.ensures.b
   where
     not_b : A ≡ B → ⊥
@@ -40,7 +40,7 @@ returns-in_err-test_place-2-clause-damaged g c = λ slot at kind is.
     let r = c.from_residual-in_err-test_place-2 in
     let p = err_from_is_err_and r.result r.ensures.1 in
     let made = c.in_err-test_place-2.ensures.err c.in_err-test_place-2.field-0.0 refl in
-    misplaced c.args.gates.now c.args.cat.now.tables B c.in_ok-slots.slots.a c.in_ok-slots.slots.b c.info-2.result made.0 c.info-2.ensures made.1 made.3
+    misplaced c.args.gates.now c.args.cat.now.tables B c.in_ok-slots.slots.a c.in_ok-slots.slots.b c.info-2.result made.0 made.1 made.2 c.info-2.ensures made.3 made.5
     (λ b. subst (λ (o : Option SlotInfo). IsInfoAmong c.args.gates.now o) c.info.ensures c.in_ok-test_place.ensures.ok)
-    c.in_err-test_place-2.field-0.0 made.2 slot at kind (the-cause r.result p.0 c.in_err-test_place-2.field-0.0 (load.Damaged (Slot slot at kind)) p.1 p.2 is)
+    c.in_err-test_place-2.field-0.0 made.4 slot at kind (the-cause r.result p.0 c.in_err-test_place-2.field-0.0 (load.Damaged (Slot slot at kind)) p.1 p.2 is)
     (g.D.Disk.known c.args.a.now) (g.D.Disk.known c.args.b.now) c.in_ok-slots.ensures.a c.in_ok-slots.ensures.b

@@ -2,6 +2,8 @@
 use Rattle.std.proofs.Common.{◌≡◌, ◌∙◌, [], List, Option, refl, sym, subst}
 use Rattle.std.proofs.lemmas.Result.{err_from_is_err_and}
 use Rattle.pac_outside.specs.Disk.{IfKnown}
+use Rattle.pac_log.specs.Logs.{header_with}
+use Rattle.pac_log.specs.declared.header.HeaderForm.TheVariants.{First}
 use Rattle.pac_log.specs.Reading.{StandsAfter}
 use Rattle.pac_check.specs.declared.info.SlotInfo.{SlotInfo}
 use Rattle.pac_check.specs.declared.info.SlotName.TheVariants.{A, B}
@@ -9,7 +11,7 @@ use Rattle.pac_recover.specs.declared.errors.Damage.TheVariants.{Log, Slot}
 use Rattle.pac_recover.specs.declared.errors.LoadError.TheVariants as load
 use Rattle.pac_recover.specs.declared.gates.GatePlace.{GatePlace}
 use Rattle.pac_recover.specs.declared.store.Ended.{Ended}
-use Rattle.pac_recover.specs.Loading.{IsInfoAmong}
+use Rattle.pac_recover.specs.Loading.{IsInfoAmong, IsMisplacedInfo}
 use Rattle.pac_recover.specs.Replays.{IsReplayOf}
 use Rattle.pac_recover.proofs.CauseLemmas.{as-error, the-cause, the-error}
 use Rattle.pac_recover.proofs.EndLemmas.{ends-beside, log-cause, misplaced-beside, replay-log}
@@ -30,10 +32,10 @@ returns-in_err-test_place-clause-slot_damage g c = λ slot at kind is text a b.
     let first = c.args.reader.gate in
     let log = c.in_ok-log.log in
     let known = g.D.Disk.known c.args.disk.now in
-    misplaced-beside text c.args.catalogue slots c.args.newest.tables.rows c.replay_log.new.reader.gate log.replayed log.gates.items A c.info.result made.0 c.info.ensures made.1
-    (λ among. made.3 (subst (λ (l : List GatePlace). IsInfoAmong l c.info.result) (sym c.deref.ensures.value) among)) (λ e. absurd (not_b e))
-    c.in_err-test_place.field-0.0 made.2 slot at kind (the-cause r.result p.0 c.in_err-test_place.field-0.0 (load.Damaged (Slot slot at kind)) p.1 p.2 is) first a b known
-    (subst (λ (n : Option SlotInfo). IfKnown (λ h. StandsAfter text [] first h.now.seen → IsReplayOf text c.args.catalogue n c.args.newest.tables.rows c.replay_log.new.reader.gate log.replayed log.gates.items h.now.seen) known) c.newest-latest.ensures (c.in_ok-log.ensures.replayed text))
+    misplaced-beside text c.args.catalogue slots c.args.newest.tables.rows c.replay_log.new.reader.gate log.replayed log.gates.items A c.info.result made.0 made.1 made.2 c.info.ensures made.3
+    (subst (λ (l : List GatePlace). IsMisplacedInfo l made.0 made.1 made.2) c.deref.ensures.value made.5) (λ e. absurd (not_b e))
+    c.in_err-test_place.field-0.0 made.4 slot at kind (the-cause r.result p.0 c.in_err-test_place.field-0.0 (load.Damaged (Slot slot at kind)) p.1 p.2 is) first a b known
+    (subst (λ (n : Option SlotInfo). IfKnown (λ h. StandsAfter (header_with First text) [] first h.now.seen → IsReplayOf text c.args.catalogue n c.args.newest.tables.rows c.replay_log.new.reader.gate log.replayed log.gates.items h.now.seen) known) c.newest-latest.ensures (c.in_ok-log.ensures.replayed text))
   where
     not_b : A ≡ B → ⊥
     not_b e = cc
@@ -47,11 +49,11 @@ returns-in_err-test_place-2-clause-slot_damage g c = λ slot at kind is text a b
     let first = c.args.reader.gate in
     let log = c.in_ok-log.log in
     let known = g.D.Disk.known c.args.disk.now in
-    misplaced-beside text c.args.catalogue slots c.args.newest.tables.rows c.replay_log.new.reader.gate log.replayed log.gates.items B c.info-2.result made.0 c.info-2.ensures made.1
-    (λ among. made.3 (subst (λ (l : List GatePlace). IsInfoAmong l c.info-2.result) (sym c.deref-2.ensures.value) among))
+    misplaced-beside text c.args.catalogue slots c.args.newest.tables.rows c.replay_log.new.reader.gate log.replayed log.gates.items B c.info-2.result made.0 made.1 made.2 c.info-2.ensures made.3
+    (subst (λ (l : List GatePlace). IsMisplacedInfo l made.0 made.1 made.2) c.deref-2.ensures.value made.5)
     (λ e. subst (λ (o : Option SlotInfo). IsInfoAmong log.gates.items o) c.info.ensures (subst (λ (l : List GatePlace). IsInfoAmong l c.info.result) c.deref.ensures.value c.in_ok-test_place.ensures.ok))
-    c.in_err-test_place-2.field-0.0 made.2 slot at kind (the-cause r.result p.0 c.in_err-test_place-2.field-0.0 (load.Damaged (Slot slot at kind)) p.1 p.2 is) first a b known
-    (subst (λ (n : Option SlotInfo). IfKnown (λ h. StandsAfter text [] first h.now.seen → IsReplayOf text c.args.catalogue n c.args.newest.tables.rows c.replay_log.new.reader.gate log.replayed log.gates.items h.now.seen) known) c.newest-latest.ensures (c.in_ok-log.ensures.replayed text))
+    c.in_err-test_place-2.field-0.0 made.4 slot at kind (the-cause r.result p.0 c.in_err-test_place-2.field-0.0 (load.Damaged (Slot slot at kind)) p.1 p.2 is) first a b known
+    (subst (λ (n : Option SlotInfo). IfKnown (λ h. StandsAfter (header_with First text) [] first h.now.seen → IsReplayOf text c.args.catalogue n c.args.newest.tables.rows c.replay_log.new.reader.gate log.replayed log.gates.items h.now.seen) known) c.newest-latest.ensures (c.in_ok-log.ensures.replayed text))
 
 pub returns-clause-ends : goal.returns-clause-ends
 returns-clause-ends g c = λ text a b.
@@ -64,7 +66,7 @@ returns-clause-ends g c = λ text a b.
     (subst (λ (o : Option SlotInfo). IsInfoAmong log.gates.items o) c.info.ensures (subst (λ (l : List GatePlace). IsInfoAmong l c.info.result) c.deref.ensures.value c.in_ok-test_place.ensures.ok))
     (subst (λ (o : Option SlotInfo). IsInfoAmong log.gates.items o) c.info-2.ensures (subst (λ (l : List GatePlace). IsInfoAmong l c.info-2.result) c.deref-2.ensures.value c.in_ok-test_place-2.ensures.ok))
     first a b known
-    (subst (λ (n : Option SlotInfo). IfKnown (λ h. StandsAfter text [] first h.now.seen → IsReplayOf text c.args.catalogue n c.args.newest.tables.rows c.replay_log.new.reader.gate log.replayed log.gates.items h.now.seen) known) c.newest-latest.ensures (c.in_ok-log.ensures.replayed text))
+    (subst (λ (n : Option SlotInfo). IfKnown (λ h. StandsAfter (header_with First text) [] first h.now.seen → IsReplayOf text c.args.catalogue n c.args.newest.tables.rows c.replay_log.new.reader.gate log.replayed log.gates.items h.now.seen) known) c.newest-latest.ensures (c.in_ok-log.ensures.replayed text))
 
 pub returns-clause-log : goal.returns-clause-log
 returns-clause-log g c = λ text.
@@ -72,4 +74,4 @@ returns-clause-log g c = λ text.
     let log = c.in_ok-log.log in
     let known = g.D.Disk.known c.args.disk.now in
     replay-log text c.args.catalogue c.args.newest.slots c.args.newest.tables.rows c.replay_log.new.reader.gate log.replayed log.gates.items first known (c.in_ok-log.ensures.catalogue ∙ sym c.requires.same)
-    (subst (λ (n : Option SlotInfo). IfKnown (λ h. StandsAfter text [] first h.now.seen → IsReplayOf text c.args.catalogue n c.args.newest.tables.rows c.replay_log.new.reader.gate log.replayed log.gates.items h.now.seen) known) c.newest-latest.ensures (c.in_ok-log.ensures.replayed text))
+    (subst (λ (n : Option SlotInfo). IfKnown (λ h. StandsAfter (header_with First text) [] first h.now.seen → IsReplayOf text c.args.catalogue n c.args.newest.tables.rows c.replay_log.new.reader.gate log.replayed log.gates.items h.now.seen) known) c.newest-latest.ensures (c.in_ok-log.ensures.replayed text))

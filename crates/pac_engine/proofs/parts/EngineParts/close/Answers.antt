@@ -32,3 +32,8 @@ returns-clause-keeps g c = λ text history.
 pub returns-clause-stands : goal.returns-clause-stands
 returns-clause-stands g c = λ text history.
     closed-stands text history c.args.self.now c.requires.working.same c.close-txns.result.0.items c.close-txns.ensures.txns _ _ _ _ c.commit.ensures.moments c.in_ok-stored.ensures.added c.commit.new.log.gate c.in_ok-stored.ensures.after c.in_ok-stored.ensures.gate _ (search rules)
+
+pub close-txns-requires : goal.close-txns-requires
+close-txns-requires g c =
+    let gate = ap (λ p. p.txns) c.gate.ensures in
+    omega (arith, c.txns-txns.ensures.room, c.txns-txns.ensures.value, gate, c.requires.working.counted)
