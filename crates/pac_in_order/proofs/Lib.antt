@@ -1,0 +1,11 @@
+mod Again
+mod OnceEach
+mod CodeAgain
+mod Prefixes
+mod Cursors
+mod Placed
+mod Moves
+mod Runs
+mod Loading
+mod Fronts
+mod Executing

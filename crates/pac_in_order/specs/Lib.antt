@@ -1,0 +1,3 @@
+pub mod Courses
+pub mod Lines
+pub mod FedInOrder
