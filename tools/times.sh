@@ -1,9 +1,9 @@
 #!/bin/bash
 # Times the program and parts of it, for docs/COSTS.md.
 #
-#     tools/times.sh replay|input|parts|log|slots|runs|committed|rows|pieces|hand|shares|serial|workers|restarts|stream
+#     tools/times.sh replay|input|parts|log|slots|held|runs|committed|rows|pieces|hand|shares|serial|workers|restarts|stream
 #
-# `replay`, `input`, `runs`, `workers` and `stream` time the program, which is $PACMAN or crates/pacman/out/pacman, and `committed`, `shares`
+# `replay`, `input`, `held`, `runs`, `workers` and `stream` time the program, which is $PACMAN or crates/pacman/out/pacman, and `committed`, `shares`
 # and `restarts` count its instructions. The others time pac_bench, `hand` both, and `pieces` and `serial` count its instructions; it is $PAC_BENCH or
 # crates/pac_bench/out/pac_bench, as `(cd crates/pac_bench && rt run -- copy 1)` makes it. All files are made in a new folder of the
 # current directory, which is removed: its disk is what `log`, `slots` and `runs` time.
@@ -191,6 +191,25 @@ slots)
     fi
     echo "a checkpoint of 499,879 rows: save"
     memory /dev/null "$bench" save 499879
+    ;;
+held)
+    # What a run holds of a million rows, and what a save and a recovery of them take.
+    echo save > save
+    for columns in 1 8; do
+        rm -f pacman.*
+        names=$(seq -f ', c%.0f int' "$columns" | tr -d '\n')
+        echo "table T(key int$names);" | "$pacman" init
+        seq 1000000 | awk -v row="$(seq -s ', ' "$columns")" '{ print "adhoc put T[" $1 "] = (" row ")" }' > lines
+        "$pacman" run --batch 1024 < lines > replies
+        echo "a million rows with $columns columns, of the log: run"
+        memory /dev/null "$pacman" run
+        echo " with a save"
+        memory save "$pacman" run
+        echo " of a slot of $(wc -c < pacman.a) bytes: run"
+        memory /dev/null "$pacman" run
+        echo " recover by 1"
+        memory /dev/null "$pacman" recover --workers 1
+    done
     ;;
 runs)
     head -2 "$add" > catalogue
