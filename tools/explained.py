@@ -216,7 +216,8 @@ def variables(expression):
     return set().union(*(variables(part) for part in expression[1:])) if expression[0] != "lit" else set()
 
 
-Operation = collections.namedtuple("Operation", "uses table modifies")
+# `of_key` has those of `uses` that define a variable of its key.
+Operation = collections.namedtuple("Operation", "uses table modifies of_key", defaults=[frozenset()])
 
 
 def add_operations(body, names, conditions, operations):
@@ -228,9 +229,9 @@ def add_operations(body, names, conditions, operations):
                 add_operations(s.blocks[0], {**names, s.var: None}, conditions, operations)
             continue
         number = len(operations)
-        used = set().union(*map(variables, (s.values or []) + ([s.key] if s.key else [])))
-        uses = {names[name] for name in used} - {None} | set(conditions)
-        operations.append(Operation(uses, s.table, s.kind in MODIFIES))
+        of_key = {names[name] for name in variables(s.key)} - {None} if s.key else set()
+        of_values = {names[name] for value in s.values or [] for name in variables(value)} - {None}
+        operations.append(Operation(of_key | of_values | set(conditions), s.table, s.kind in MODIFIES, of_key))
         for block in s.blocks or []:
             add_operations(block, names, conditions + [number], operations)
         if s.var:
