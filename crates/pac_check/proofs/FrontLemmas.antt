@@ -255,3 +255,24 @@ loaded_b tables slots info found held newest is at a b known loaded =
   where
     one : Some info ≡ Some found → info ≡ found
     one e = cc
+
+-- of a slot that stands as it was read no other head is read
+not_other : (tables : List Table) (slot : SlotName) (state : SlotState) (info : SlotInfo) → info_of slot state ≡ Some info → (known : Option DiskHistory) → IfKnown (λ old. IsSlot tables state old.now.seen) known
+    → IfKnown (λ old. (head : Head) → info_with slot head ≡ info → IsSlot tables (Open head) old.now.seen → ⊥) known → IfKnown (λ old. ⊥) known
+not_other tables slot Empty info e known is other = absurd cc
+not_other tables slot Closed info e known is other = absurd cc
+not_other tables slot (Open head) info e None is other = tt
+not_other tables slot (Open head) info e (Some old) is other = other head (same e) is
+  where
+    same : Some (info_with slot head) ≡ Some info → info_with slot head ≡ info
+    same h = cc
+
+pub not_other_a : (tables : List Table) (slots : Slots) (found : SlotInfo) → newest_of slots ≡ Some found → found.slot ≡ A → (a : Option DiskHistory) → IfKnown (λ old. IsSlot tables slots.a old.now.seen) a
+    → IfKnown (λ old. (head : Head) → info_with found.slot head ≡ found → IsSlot tables (Open head) old.now.seen → ⊥) a → IfKnown (λ old. ⊥) a
+not_other_a tables slots found newest at a known other =
+    not_other tables A slots.a found (of_a slots.a slots.b found newest at) a known (subst (λ (s : SlotName). IfKnown (λ old. (head : Head) → info_with s head ≡ found → IsSlot tables (Open head) old.now.seen → ⊥) a) at other)
+
+pub not_other_b : (tables : List Table) (slots : Slots) (found : SlotInfo) → newest_of slots ≡ Some found → found.slot ≡ B → (b : Option DiskHistory) → IfKnown (λ old. IsSlot tables slots.b old.now.seen) b
+    → IfKnown (λ old. (head : Head) → info_with found.slot head ≡ found → IsSlot tables (Open head) old.now.seen → ⊥) b → IfKnown (λ old. ⊥) b
+not_other_b tables slots found newest at b known other =
+    not_other tables B slots.b found (of_b slots.a slots.b found newest at) b known (subst (λ (s : SlotName). IfKnown (λ old. (head : Head) → info_with s head ≡ found → IsSlot tables (Open head) old.now.seen → ⊥) b) at other)

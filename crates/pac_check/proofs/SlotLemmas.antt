@@ -1,5 +1,6 @@
 -- What is read of a slot, and what stands in it.
 use Rattle.std.proofs.Common.{◌≡◌, ◌∙◌, ℕ, ◌<◌, Bool, true, false, if◌then◌else◌, eqb, List, [], ◌∷◌, ◌++◌, length, take, drop, Option, Some, None, Result, Ok, Err, OnOk, inl, refl, sym, ap, ap₂, subst}
+use Rattle.std.specs.Prelude.{IfErr, IsErrOf, OnErr}
 use Rattle.std.proofs.lemmas.Bool.{eqb-true, eqb-false}
 use Rattle.std.proofs.lemmas.List.{take-append-drop}
 use Rattle.pac_outside.specs.Disk.{DiskState, DiskHistory, IfKnown, SeenAreBytes}
@@ -9,14 +10,20 @@ use Rattle.pac_types.specs.declared.table.Table.{Table}
 use Rattle.pac_bytes.specs.Reading.{Rest, from}
 use Rattle.pac_bytes.proofs.Bytes.{IsBytes, IsBytes-drop}
 use Rattle.pac_check.specs.declared.damage.SlotFault.{SlotFault}
+use Rattle.pac_check.specs.declared.damage.SlotDamageKind.{SlotDamageKind}
+use Rattle.pac_check.specs.declared.damage.SlotDamageKind.TheVariants.{Place}
+use Rattle.pac_check.specs.declared.errors.SlotError.{SlotError}
+use Rattle.pac_check.specs.declared.errors.SlotError.TheVariants.{Damaged}
 use Rattle.pac_check.specs.declared.head.Head.{Head}
+use Rattle.pac_check.specs.declared.info.SlotInfo.{SlotInfo}
+use Rattle.pac_check.specs.declared.info.SlotName.{SlotName}
 use Rattle.pac_check.specs.declared.state.SlotState.{SlotState}
 use Rattle.pac_check.specs.declared.state.SlotState.TheVariants.{Empty, Closed, Open}
 use Rattle.pac_check.specs.Checkpoints.{Checkpoint, KeyedRow}
 use Rattle.pac_check.specs.CheckpointReading.{next_checkpoint, head_alone}
 use Rattle.pac_check.specs.PieceStates.{PiecesState, WasRead}
 use Rattle.pac_check.specs.Replacing.{BeginsAs}
-use Rattle.pac_check.specs.SlotStates.{opened, slot_read, IsSlot, HoldsCheckpoint, HoldsRows, OpensExactly}
+use Rattle.pac_check.specs.SlotStates.{info_with, opened, slot_read, IsSlot, HoldsCheckpoint, HoldsRows, OpensExactly}
 use Rattle.pac_check.specs.Saved.{checkpoint_of, rows_of_tables}
 use Rattle.pac_check.proofs.CheckpointLemmas.{checkpoint_codec}
 
@@ -120,6 +127,39 @@ module _ (tables : List Table) (few : length tables < 65536) where
     where
       one : (a b : Checkpoint × Rest) → ◌≡◌ {A = Read} (Ok a) (Ok b) → a.0 ≡ b.0
       one a b e = cc
+
+  -- a slot whose head was read has no other
+  head_known : (old new : PiecesState) (own head : Head) (rows : List (List KeyedRow)) (h : DiskHistory) → old.place ≡ 1 → WasRead h.now.seen old new (record { head = own; tables = rows }) (next_checkpoint tables)
+      → IsSlot tables (Open head) h.now.seen → own ≡ head
+  head_known old new own head rows h first read slot =
+      let there = open_read tables head h.now.seen slot in
+      sym (ap (λ (c : Checkpoint). c.head) (one there.0 (record { head = own; tables = rows }, from h.now.seen new.place) (sym there.1 ∙ ap (λ (n : ℕ). next_checkpoint tables (from h.now.seen n)) (sym first) ∙ read.1))) ∙ there.2
+    where
+      one : (a b : Checkpoint × Rest) → ◌≡◌ {A = Read} (Ok a) (Ok b) → a.0 ≡ b.0
+      one a b e = cc
+
+  -- so what is known of it is known of that head alone
+  pub info_known : (known : Option DiskHistory) (old new : PiecesState) (own : Head) (rows : List (List KeyedRow)) (slot : SlotName) (info : SlotInfo) → old.place ≡ 1 → info_with slot own ≡ info
+      → IfKnown (λ h. WasRead h.now.seen old new (record { head = own; tables = rows }) (next_checkpoint tables)) known → IfKnown (λ h. (head : Head) → IsSlot tables (Open head) h.now.seen → info_with slot head ≡ info) known
+  info_known None old new own rows slot info first is read = tt
+  info_known (Some h) old new own rows slot info first is read = λ head here. ap (info_with slot) (sym (head_known old new own head rows h first read here)) ∙ is
+
+  pub other_known : (known : Option DiskHistory) (old new : PiecesState) (own : Head) (rows : List (List KeyedRow)) (slot : SlotName) (info : SlotInfo) → old.place ≡ 1 → (info_with slot own ≡ info → ⊥)
+      → IfKnown (λ h. WasRead h.now.seen old new (record { head = own; tables = rows }) (next_checkpoint tables)) known → IfKnown (λ h. (head : Head) → info_with slot head ≡ info → IsSlot tables (Open head) h.now.seen → ⊥) known
+  other_known None old new own rows slot info first other read = tt
+  other_known (Some h) old new own rows slot info first other read = λ head is here. other (ap (info_with slot) (head_known old new own head rows h first read here) ∙ is)
+
+-- what is said of a head that is refused as another is said of the damage that is told
+pub damaged_known : {P Q : Type 0} (r : Result (Unit {0}) SlotError) (slot : SlotName) → IfErr r (λ error. error ≡ Damaged slot 9 Place) → (name : SlotName) (at : ℕ) (kind : SlotDamageKind) → IsErrOf r (Damaged name at kind)
+    → (P → Q) → OnErr r P → (name ≡ slot) × Q
+damaged_known (Ok done) slot cause name at kind is f other = absurd (no is)
+  where
+    no : ◌≡◌ {A = Result (Unit {0}) SlotError} (Ok done) (Err (Damaged name at kind)) → ⊥
+    no e = cc
+damaged_known (Err error) slot cause name at kind is f other = (names is cause, f other)
+  where
+    names : ◌≡◌ {A = Result (Unit {0}) SlotError} (Err error) (Err (Damaged name at kind)) → error ≡ Damaged slot 9 Place → name ≡ slot
+    names e h = cc
 
 -- one image that begins as this slot does
 pub begins_one : (tables : List Table) (state : SlotState) (disk : DiskState) → OneImage (IsSlot tables state) disk → OneImage (BeginsAs state) disk

@@ -1,5 +1,5 @@
 // Reads one slot from its device.
-ghost use Rattle.std.specs.Prelude.{◌≡◌, [], ◌∷◌, ℕ, length, take, IfOk, IsErrOf, MatchResult, OnOk, Ok, Err};
+ghost use Rattle.std.specs.Prelude.{◌≡◌, [], ◌∷◌, ℕ, length, take, IfErr, IfOk, IsErrOf, MatchResult, OnErr, OnOk, Ok, Err};
 ghost use Rattle.std.specs.FinMap as map;
 ghost use Rattle.pac_outside.specs.Causes.{one_more};
 ghost use Rattle.pac_outside.specs.Disk.{IfKnown};
@@ -8,18 +8,21 @@ ghost use Rattle.pac_check.specs.declared.damage.SlotDamageKind.{SlotDamageKind 
 ghost use Rattle.pac_check.specs.declared.head.Head.{Head as AHead};
 ghost use Rattle.pac_check.specs.declared.info.SlotName.{SlotName as ASlotName};
 ghost use Rattle.pac_check.specs.Kinds.{slot_fault};
-ghost use Rattle.pac_check.specs.SlotStates.{HoldsRows, IsSlotFront, IsSlot, OpensExactly, front_read, slot_read};
+ghost use Rattle.pac_check.specs.SlotStates.{HoldsRows, IsSlotFront, IsSlot, OpensExactly, front_read, info_with, slot_read};
 
 use crate::damage::error_in;
 use crate::descent::checkpoint_from;
-use crate::head::{FRONT_LEN, front_at};
+use crate::head::{FRONT_LEN, Head, front_at};
 use crate::pieces::Pieces;
 use crate::taker::Passer;
-use crate::{SlotError, SlotFault, SlotName, SlotState};
+use crate::{SlotDamageKind, SlotError, SlotFault, SlotInfo, SlotName, SlotState};
 use pac_outside::{Disk, GATE_OPEN, read_piece};
 use pac_tables::Rows;
 use pac_types::Catalogue;
 use std::alloc::Global;
+
+// Where a checkpoint's number of transactions stands, after the gate and the name.
+const TXNS_AT: u64 = 9;
 
 /// What a slot begins with: of one that is shut no more than its gate byte is looked at, and of an open one what stands before the
 /// number of tables.
@@ -133,15 +136,15 @@ pub(crate) fn read_slot<D: Disk>(
     Ok(state)
 }
 
-/// Reads the tables of an open slot into tables without rows.
+/// Reads the tables of an open slot, of which this is known, into tables without rows.
 ///
 /// # Errors
 ///
-/// Those of [`look_at`].
+/// Those of [`look_at`], and `Place` where something else is known of what stands there now.
 pub(crate) fn load_slot<D: Disk, R: Rows>(
     alloc: Global,
     cat: &Catalogue,
-    slot: SlotName,
+    info: &SlotInfo,
     disk: &mut D,
     rows: &mut R,
 ) -> Result<(), SlotError>
@@ -149,14 +152,38 @@ pub(crate) fn load_slot<D: Disk, R: Rows>(
     requires count { R.tables rows.old ≡ length cat.now.tables }
     ensures fits { OnOk result (FitsCatalogue cat.now (R.tables rows.new) (R.held rows.new)) }
     ensures loaded { OnOk result (IfKnown (λ old. (head : AHead) → IsSlot cat.now.tables (SlotState.Open head) old.now.seen → HoldsRows cat.now.tables head (R.held rows.new) old.now.seen) (D.known disk.old)) }
-    ensures damaged { (name : ASlotName) (at : ℕ) (kind : ADamageKind) → IsErrOf result (SlotError.Damaged name at kind) → (name ≡ slot) × IfKnown (λ old. (head : AHead) → ¬ IsSlot cat.now.tables (SlotState.Open head) old.now.seen) (D.known disk.old) }
+    ensures same_info { OnOk result (IfKnown (λ old. (head : AHead) → IsSlot cat.now.tables (SlotState.Open head) old.now.seen → info_with info.now.slot head ≡ info.now) (D.known disk.old)) }
+    ensures damaged { (name : ASlotName) (at : ℕ) (kind : ADamageKind) → IsErrOf result (SlotError.Damaged name at kind) → (name ≡ info.now.slot) × IfKnown (λ old. (head : AHead) → info_with info.now.slot head ≡ info.now → ¬ IsSlot cat.now.tables (SlotState.Open head) old.now.seen) (D.known disk.old) }
     ensures same { D.known disk.new ≡ D.known disk.old }
     ensures counted { IsErrOf result SlotError.DiskFault → D.faults disk.new ≡ one_more (D.faults disk.old) }
     ensures quiet { ¬ IsErrOf result SlotError.DiskFault → D.faults disk.new ≡ D.faults disk.old }
 {
     let mut pieces = Pieces::open(alloc, disk, 1)?;
     match checkpoint_from(alloc, cat.tables(), &mut pieces, disk, rows) {
-        Ok(_) => Ok(()),
-        Err(stop) => Err(error_in(slot, stop)),
+        Ok(head) => test_info(info, &head),
+        Err(stop) => Err(error_in(info.slot, stop)),
+    }
+}
+
+// Refuses a head of which something else is known: it was written since.
+fn test_info(info: &SlotInfo, head: &Head) -> Result<(), SlotError>
+    ensures same { OnOk result (info_with info.now.slot head.now ≡ info.now) }
+    ensures other { OnErr result (¬ (info_with info.now.slot head.now ≡ info.now)) }
+    ensures cause { IfErr result (λ error. error ≡ SlotError.Damaged info.now.slot 9 SlotDamageKind.Place) }
+{
+    let read = SlotInfo {
+        slot: info.slot,
+        txns: head.txns,
+        place: head.place,
+        segment: head.form.segment(),
+    };
+    if read == *info {
+        Ok(())
+    } else {
+        Err(SlotError::Damaged {
+            slot: info.slot,
+            at: TXNS_AT,
+            kind: SlotDamageKind::Place,
+        })
     }
 }

@@ -250,7 +250,8 @@ impl Slots {
     ///
     /// # Errors
     ///
-    /// Those of [`Slots::attach`]; where the devices' contents are known, no damage is found.
+    /// Those of [`Slots::attach`], and `Place` of the newest slot where its head isn't the one that was read before: something wrote it
+    /// since. Where the devices' contents are known, no damage is found.
     pub fn load_newest<D: Disk, R: Rows>(
         &self,
         alloc: Global,
@@ -280,8 +281,8 @@ impl Slots {
         match self.newest() {
             None => Ok(()),
             Some(info) => match info.slot {
-                SlotName::A => load_slot(alloc, cat, SlotName::A, a, rows),
-                SlotName::B => load_slot(alloc, cat, SlotName::B, b, rows),
+                SlotName::A => load_slot(alloc, cat, &info, a, rows),
+                SlotName::B => load_slot(alloc, cat, &info, b, rows),
             },
         }
     }
