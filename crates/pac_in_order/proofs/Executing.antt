@@ -26,7 +26,7 @@ use Rattle.pac_commute.specs.PartialFits.{TxnIsOfPlan, TxnsFitPlan}
 use Rattle.pac_commute.specs.PlanLaws.{NumbersRunOn, txns_of}
 use Rattle.pac_in_order.specs.Courses.{Course, IsCourseOutcome, IsNextInOrder, IsRunInOrder, MayFollow, RanBatch, RanOn, course_pieces, course_with_batch}
 use Rattle.pac_workers.specs.Fed.{HasFed}
-use Rattle.pac_in_order.specs.FedInOrder.{IsFedInOrder}
+use Rattle.pac_core.specs.FedExecution.{IsExecutedFeed}
 use Rattle.pac_in_order.proofs.Placed.{begins_at, txns-both}
 use Rattle.pac_commute.proofs.BatchLemmas.{txns-more}
 
@@ -196,7 +196,7 @@ module _ {F : Type 0} (so_far : F → List Batch) (known : F → List Batch → 
 
   -- what it leaves at the end
   pub fed_end : (course : Course) (p d : ℕ) (fed : FedSoFar (HasFed so_far known) next params tables job from old course p d) → HasFed so_far known from fed.batches new → (tables_now : Tables) (note : Option Note) (finished : ℕ)
-      → IsCourseOutcome course tables_now note → finished ≡ p + d → IsFedInOrder (HasFed so_far known) job from new tables_now note finished
+      → IsCourseOutcome course tables_now note → finished ≡ p + d → IsExecutedFeed (HasFed so_far known) job from new tables_now note finished
   fed_end course p d fed given tables_now note finished outcome counted =
       let o = outcome_of job fed.batches course tables_now note fed.course_is outcome in
       record { batches = fed.batches; given = given; tables_are = o.0; note_is = o.1; counted = counted ∙ fed.counted }

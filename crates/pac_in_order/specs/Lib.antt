@@ -1,3 +1,2 @@
 pub mod Courses
 pub mod Lines
-pub mod FedInOrder

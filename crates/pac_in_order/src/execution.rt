@@ -8,7 +8,7 @@ ghost use Rattle.pac_commute.specs.Loads.{pieces_of};
 ghost use Rattle.pac_commute.specs.PartialFits.{TxnsFitPlan};
 ghost use Rattle.pac_commute.specs.PlanLaws.{NumbersRunOn, txns_of};
 ghost use Rattle.pac_in_order.specs.Courses.{IsCourseOutcome, IsNextInOrder, MayFollow, RanBatch, RanOn};
-ghost use Rattle.pac_in_order.specs.FedInOrder.{IsFedInOrder};
+ghost use Rattle.pac_core.specs.FedExecution.{IsExecutedFeed};
 ghost use Rattle.pac_workers.specs.Fed.{HasFed};
 
 use crate::in_order::InOrder;
@@ -103,7 +103,7 @@ pub fn execute_feed_in_order<R: Rows, F: Feed, G: Gate>(
     ensures given { (batches : List ABatch) × HasFed F.so_far F.gives feed.old batches feed.new }
     ensures tables { IfOk result (λ e. R.tables e.tables ≡ length plan.tables) }
     ensures fit { IfOk result (λ e. RowsFit plan.tables (R.held e.tables)) }
-    ensures executed { IfOk result (λ e. IsFedInOrder (HasFed F.so_far F.gives) (record { parts = plan; first = first; tables = R.held tables }) feed.old feed.new (R.held e.tables) e.first_note (e.pieces + e.drained)) }
+    ensures executed { IfOk result (λ e. IsExecutedFeed (HasFed F.so_far F.gives) (record { parts = plan; first = first; tables = R.held tables }) feed.old feed.new (R.held e.tables) e.first_note (e.pieces + e.drained)) }
     ensures over { OnOk result (F.is_over feed.new ≡ true) }
     ensures same_types { (F.params feed.new ≡ F.params feed.old) × (F.tables feed.new ≡ F.tables feed.old) }
 {

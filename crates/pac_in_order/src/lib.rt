@@ -8,6 +8,7 @@
 //! - [`InOrder::into_parts`] gives the tables and the first transaction that aborted. [`InOrder::next_txn`] and
 //!   [`InOrder::is_closed`] say what may be loaded, and [`InOrder::keeps_invariant`] what holds at every moment.
 //! - [`execute_in_order`] executes batches so, and [`execute_feed_in_order`] what a feed gives, one batch after another.
+//! - [`execute`] and [`execute_feed`] execute by a number of workers: one in order, several as they are handed pieces by a core.
 //!
 //! ```
 //! let executed = execute_in_order(alloc, code, 1, rows, batches, &OpenGate)?;
@@ -32,6 +33,8 @@ mod in_order;
 mod line;
 mod running;
 mod seeking;
+mod workers;
 
 pub use execution::{ExecutedInOrder, execute_feed_in_order, execute_in_order};
 pub use in_order::{InOrder, Stopped};
+pub use workers::{execute, execute_feed};

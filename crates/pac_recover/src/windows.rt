@@ -15,7 +15,7 @@ ghost use Rattle.pac_recover.specs.Windows.{IsExecutedWindow};
 use crate::workers::execution_of;
 use crate::{Execution, LoadError, LogFeed};
 use pac_base::Exact;
-use pac_core::execute_feed;
+use pac_in_order::execute_feed;
 use pac_keys::PlanCode;
 use pac_log::LogReader;
 use pac_outside::{Disk, Gate};

@@ -11,8 +11,9 @@ ghost use Rattle.pac_recover.specs.Outcomes.{FitsReplayed, executed_to, outcome_
 
 use crate::Execution;
 use pac_base::NoMemory;
-use pac_core::{Executed, execute};
+use pac_core::Executed;
 use pac_global::catalogue_plan;
+use pac_in_order::execute;
 use pac_ops::Batches;
 use pac_outside::Gate;
 use pac_plan::Plan;

@@ -7,8 +7,9 @@ ghost use Rattle.pac_recover.specs.Gates.{RunOn, txns_in};
 ghost use Rattle.pac_recover.specs.Logs.{FitBatches};
 ghost use Rattle.pac_stress.specs.Stressed.{Finishes};
 
-use pac_core::{Executed, execute};
+use pac_core::Executed;
 use pac_global::catalogue_plan;
+use pac_in_order::execute;
 use pac_ops::Batches;
 use pac_outside::Gate;
 use pac_serial::{AllError, no_rows};
