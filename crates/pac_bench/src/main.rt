@@ -16,7 +16,8 @@
 //! A round of `txns` makes 1,000 transactions of the stress test. `sets` makes the pieces of their batch too, `accesses` the
 //! accesses of those whose inputs are arguments, and `pairs` the next pairs of these. A round of `queue` and of `long_queue`
 //! makes the next pairs of 1,024 and of 2,048 pieces that modify one row; the pairs of a round are printed.
-//! One of `hand_one` and of `hand_four` hands out 1,024 pieces over atomic words, to one and to four threads.
+//! One of `hand_one` and of `hand_four` hands out 1,024 pieces over atomic words, to one and to four threads. `locked_one` and
+//! `locked_four` have as many workers take 1,024 pieces under the lock of a core, each of which puts a row of its own.
 //!
 //! `replay` reads the script in standard input. A round executes its transactions one after another over hashed tables, and makes
 //! the dump: what the command of this name does, without pieces and workers.
@@ -25,6 +26,7 @@
 mod body;
 mod graph;
 mod hand;
+mod locked;
 mod log;
 mod part;
 mod pieces;
@@ -41,7 +43,7 @@ use std::thread::Threads;
 use std::{env, io};
 
 const USAGE: &str =
-    "usage: pac_bench write|read|copy|table|tables|chain|commit|commits|fill|scan|save|few|few_limited|many|many_limited|txns|sets|accesses|pairs|queue|long_queue|hand_one|hand_four|replay ROUNDS";
+    "usage: pac_bench write|read|copy|table|tables|chain|commit|commits|fill|scan|save|few|few_limited|many|many_limited|txns|sets|accesses|pairs|queue|long_queue|hand_one|hand_four|locked_one|locked_four|replay ROUNDS";
 
 // The part and the rounds that the arguments ask for.
 fn asked(words: &[String]) -> Option<(Part, u32)> {
@@ -78,6 +80,8 @@ fn make<H: Threads + Wait + Sync>(
         Part::Queue { pieces } => pieces::queue(alloc, pieces, rounds),
         Part::HandToOne => hand::make(threads, alloc, 1, rounds),
         Part::HandToFour => hand::make(threads, alloc, 4, rounds),
+        Part::LockedByOne => locked::make(threads, alloc, 1, rounds),
+        Part::LockedByFour => locked::make(threads, alloc, 4, rounds),
         Part::Replay => serial::replay(alloc, &mut Stream::new(rt.stdin()), rounds),
     }
 }

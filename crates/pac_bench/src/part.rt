@@ -37,6 +37,8 @@ pub enum Part {
     Queue { pieces: u16 },
     HandToOne,
     HandToFour,
+    LockedByOne,
+    LockedByFour,
     Replay,
 }
 
@@ -75,6 +77,8 @@ impl Part {
             "long_queue" => Some(Part::Queue { pieces: 2_048 }),
             "hand_one" => Some(Part::HandToOne),
             "hand_four" => Some(Part::HandToFour),
+            "locked_one" => Some(Part::LockedByOne),
+            "locked_four" => Some(Part::LockedByFour),
             "many_limited" => Some(Part::over(100_000, Some(1_000_000))),
             "replay" => Some(Part::Replay),
             _ => None,
@@ -93,7 +97,11 @@ impl Part {
             Part::Graph(_) => "blocks",
             Part::Commit(_) | Part::Execute(_) | Part::Pieces(Depth::Txns) => "transactions",
             Part::Save => "rows",
-            Part::Pieces(Depth::Sets) | Part::HandToOne | Part::HandToFour => "pieces",
+            Part::Pieces(Depth::Sets)
+            | Part::HandToOne
+            | Part::HandToFour
+            | Part::LockedByOne
+            | Part::LockedByFour => "pieces",
             Part::Pieces(Depth::Accesses) => "accesses",
             Part::Pieces(Depth::Pairs) | Part::Queue { .. } => "pairs",
         }
