@@ -4,7 +4,7 @@
 #     tools/times.sh replay|input|parts|log|slots|held|runs|committed|rows|pieces|hand|shares|serial|workers|restarts|stream
 #
 # `replay`, `input`, `held`, `runs`, `workers` and `stream` time the program, which is $PACMAN or crates/pacman/out/pacman, and `committed`, `shares`
-# and `restarts` count its instructions. The others time pac_bench, `hand` both, and `pieces` and `serial` count its instructions; it is $PAC_BENCH or
+# and `restarts` count its instructions. The others time pac_bench, and `pieces` and `serial` count its instructions; it is $PAC_BENCH or
 # crates/pac_bench/out/pac_bench, as `(cd crates/pac_bench && rt run -- copy 1)` makes it. All files are made in a new folder of the
 # current directory, which is removed: its disk is what `log`, `slots` and `runs` time.
 set -eu -o pipefail
@@ -149,12 +149,9 @@ pieces)
     for part in queue long_queue; do for rounds in 0 100; do counted "$rounds rounds: $part" "$bench" "$part" "$rounds"; done; done
     ;;
 hand)
-    # Handing 1,024 pieces out over atomic words, to one thread and to four; and the replay of a million pieces that change one row
-    # each, which workers take under a lock, beside their execution one after another.
-    script 1024000 1024 > script
-    for part in hand_one hand_four; do timed "1,000 hand-outs of 1,024 pieces: $part" "$bench" "$part" 1000; done
-    for workers in 1 4; do timed "1,024,000 pieces: replay by $workers" run_with "$workers" replay script; done
-    timed "1,024,000 pieces: executed one after another" "$bench" replay 1 < script
+    # 1,024 pieces that wait for none, handed out over atomic words to one thread and to four; and as many that put a row each, which one
+    # worker and four take under the lock of a core.
+    for part in hand_one hand_four locked_one locked_four; do timed "1,000 times 1,024 pieces: $part" "$bench" "$part" 1000; done
     ;;
 shares)
     # What is made of the pieces of a stress test by one worker and by two, function by function, each with all that it calls. What
