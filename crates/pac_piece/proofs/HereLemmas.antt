@@ -13,10 +13,10 @@ use Rattle.pac_ops.specs.Reasons.{or_abort, reason_of}
 use Rattle.pac_ops.specs.Notes.{note_at, first_note, least}
 use Rattle.pac_ops.specs.Transactions.{with_change}
 use Rattle.pac_ops.specs.Uses.{defined_variable}
-use Rattle.pac_ops.specs.Operations.{State, Effect, Gives, touched, effect, row_at, with_effect, done}
+use Rattle.pac_ops.specs.Operations.{State, Gives, touched, with_effect, done}
 use Rattle.pac_ops.specs.Flat.{all_hold, flat_reason, reason_in}
 use Rattle.pac_ops.specs.Defaults.{trapped_type}
-use Rattle.pac_ops.specs.declared.program.FlatOp.{FlatOp}
+use Rattle.pac_ops.specs.declared.program.OpKind.{OpKind}
 use Rattle.pac_ops.specs.Effects.{NumberedOp, cell_in, record_op}
 use Rattle.pac_ops.proofs.EffectLemmas.{cell-table}
 use Rattle.pac_ops.proofs.StateLemmas.{least_none, least-assoc, first-append}
@@ -39,17 +39,12 @@ module _ {R : Type 0} (held : R → Tables) (txn : ℕ) (o : NumberedOp) (old ne
     note = note ∙ sym (least_none old.frame.note) ∙ sym (ap (λ r. least old.frame.note (first_note (note_at txn o.0 r))) (ap (λ b. cond b (reason_in (done o.1.kind s)) None) hold));
   }
 
-  -- it has its effect
-  pub stepped_here : (cell : Option Cell) (e : Effect) → all_hold old.frame.env o.1.conds ≡ true → touched o.1.kind old.frame.env ≡ Ok cell → effect o.1.kind old.frame.env (row_at s.tables cell) ≡ Ok e
-      → state_here held new ≡ with_effect cell e s → new.frame.note ≡ old.frame.note → StepsHere held txn o old new
-  stepped_here cell e hold touch has state note = record {
-    state = state ∙ sym (ap (λ b. cond b (done_or_defaulted o.1.kind s (done o.1.kind s)) s) hold ∙ ap (done_or_defaulted o.1.kind s) is_done);
+  -- it does what it means
+  pub done_here : all_hold old.frame.env o.1.conds ≡ true → done o.1.kind s ≡ Ok (state_here held new) → new.frame.note ≡ old.frame.note → StepsHere held txn o old new
+  done_here hold is_done note = record {
+    state = sym (ap (λ b. cond b (done_or_defaulted o.1.kind s (done o.1.kind s)) s) hold ∙ ap (done_or_defaulted o.1.kind s) is_done);
     note = note ∙ sym (least_none old.frame.note) ∙ sym (ap (λ r. least old.frame.note (first_note (note_at txn o.0 r))) (ap (λ b. cond b (reason_in (done o.1.kind s)) None) hold ∙ ap reason_in is_done));
   }
-    where
-      is_done : done o.1.kind s ≡ Ok (with_effect cell e s)
-      is_done = ap (λ r. or_abort r >>= λ c. effect o.1.kind old.frame.env (row_at s.tables c) >>= λ d. Ok (with_effect c d s)) touch
-          ∙ ap (λ r. r >>= λ d. Ok (with_effect cell d s)) has
 
   -- it aborts
   pub aborted_here : (reason : Reason) → all_hold old.frame.env o.1.conds ≡ true → done o.1.kind s ≡ Err reason
@@ -63,15 +58,11 @@ module _ {R : Type 0} (held : R → Tables) (txn : ℕ) (o : NumberedOp) (old ne
   -- it gives a variable the value of an expression
   pub valued_here : (var : ℕ) (e : Expr) (v : Value) → GivesValueOf o.1.kind var e → all_hold old.frame.env o.1.conds ≡ true → value e old.frame.env ≡ Ok v
       → state_here held new ≡ with_effect None (Gives var v) s → new.frame.note ≡ old.frame.note → StepsHere held txn o old new
-  valued_here var e v kind hold is state note = stepped_here None (Gives var v) hold (none kind) (has kind) state note
+  valued_here var e v kind hold is state note = done_here hold (has kind ∙ sym (ap (λ (t : State). Ok t) state)) note
     where
-      none : GivesValueOf o.1.kind var e → touched o.1.kind old.frame.env ≡ Ok None
-      none (inl same) = ap (λ k. touched k old.frame.env) same
-      none (inr same) = ap (λ k. touched k old.frame.env) same
-
-      has : GivesValueOf o.1.kind var e → effect o.1.kind old.frame.env (row_at s.tables None) ≡ Ok (Gives var v)
-      has (inl same) = ap (λ k. effect k old.frame.env (row_at s.tables None)) same ∙ ap (λ r. or_abort r >>= λ w. Ok (Gives var w)) is
-      has (inr same) = ap (λ k. effect k old.frame.env (row_at s.tables None)) same ∙ ap (λ r. or_abort r >>= λ w. Ok (Gives var w)) is
+      has : GivesValueOf o.1.kind var e → done o.1.kind s ≡ Ok (with_effect None (Gives var v) s)
+      has (inl same) = ap (λ k. done k s) same ∙ ap (λ r. (or_abort r >>= λ w. Ok (Gives var w)) >>= λ d. Ok (with_effect None d s)) is
+      has (inr same) = ap (λ k. done k s) same ∙ ap (λ r. (or_abort r >>= λ w. Ok (Gives var w)) >>= λ d. Ok (with_effect None d s)) is
 
   -- or the expression traps
   pub trapped_here : (var : ℕ) (e : Expr) (trap : Trap) → GivesValueOf o.1.kind var e → value e old.frame.env ≡ Err trap → done o.1.kind s ≡ Err (reason_of trap)
@@ -136,6 +127,6 @@ module _ {R : Type 0} (held : R → Tables) (tables : R → ℕ) where
   keeps_more old mid new one more = record { count = more.count ∙ one.count; before = more.before ∙ one.before; stands = more.stands }
 
 -- the cell that an operation touches is in a table that is there
-pub cell_there : (There : ℕ → Type 0) (op : FlatOp) (env : Values) (cell : Option Cell) → all_hold env op.conds ≡ true → touched op.kind env ≡ Ok cell → HasTable There op.kind → IfSome cell (λ a. There a.0)
-cell_there There op env None hold touch there = tt
-cell_there There op env (Some a) hold touch there = there a.0 (cell-table op env a (ap (λ b. cond b (cell_in (touched op.kind env)) None) hold ∙ ap cell_in touch))
+pub cell_there : (There : ℕ → Type 0) (kind : OpKind) (env : Values) (cell : Option Cell) → touched kind env ≡ Ok cell → HasTable There kind → IfSome cell (λ a. There a.0)
+cell_there There kind env None touch there = tt
+cell_there There kind env (Some a) touch there = there a.0 (cell-table (record { conds = []; kind = kind }) env a (ap cell_in touch))

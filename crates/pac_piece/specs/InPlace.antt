@@ -1,5 +1,5 @@
 -- What a piece does over the tables themselves, and what puts back what it did.
-use Rattle.std.specs.Prelude.{◌≡◌, ℕ, ◌<◌, true, List, [], ◌∷◌, take, Option, Some, IsSome, refl}
+use Rattle.std.specs.Prelude.{◌≡◌, ℕ, ◌<◌, true, List, [], ◌∷◌, take, Option, Some, IsSome, Result, Ok, Err, refl}
 use Rattle.std.specs.Coded.{Coded, code_by, coded×, coded_ℕ, coded_option}
 use Rattle.std.specs.FinMap.{get, code}
 use Rattle.pac_value.specs.contracts.values.Value as value_type
@@ -15,7 +15,8 @@ use Rattle.pac_plan.specs.Analysis.{IsPlan}
 use Rattle.pac_plan.specs.Pieces.{Present, run_ops, with_env}
 use Rattle.pac_plan.specs.Worlds.{txn_vars}
 use Rattle.pac_plan.specs.Codes.{TxnFitsPlan, code_in, code_ops, piece_ops}
-use Rattle.pac_ops.specs.Operations.{State}
+use Rattle.pac_ops.specs.declared.program.OpKind.{OpKind}
+use Rattle.pac_ops.specs.Operations.{State, done}
 use Rattle.pac_ops.specs.Flat.{flat_reason}
 use Rattle.pac_ops.specs.Effects.{NumberedOp}
 use Rattle.pac_tables.specs.declared.writes.Write.{Write}
@@ -23,6 +24,8 @@ use Rattle.pac_tables.specs.Written.{IsOnce, is_written, written}
 use Rattle.pac_tables.specs.Room.{IsReady}
 use Rattle.pac_piece.specs.Frames.{after_op, after_ops, notes_after, state_seen}
 use Rattle.pac_piece.specs.Values.{code_end, state_over}
+use Rattle.pac_piece.specs.declared.failed.OpFailed.{OpFailed}
+use Rattle.pac_piece.specs.declared.failed.OpFailed.TheVariants.{Abort, NoMemory}
 use Rattle.pac_piece.specs.declared.ground.Ground.{Ground}
 
 -- writes that are made from the last to the first, and take no memory: each row that is put replaces one
@@ -51,6 +54,12 @@ module _ {R : Type 0} (held : R → Tables) where
   -- a row stands at the cell, or none, and nothing else happened
   abbrev pub IsLeft : Cell → Option RowValues → Ground R → Ground R → Type 0
   IsLeft cell row old new = tables_seen new ≡ with_row (tables_seen old) cell row
+
+  -- the operation did what it means; or it would abort, and nothing happened; or it found no memory
+  abbrev pub DoesHere : {T : Type 0} → OpKind → Ground R → Ground R → Result T OpFailed → Type 0
+  DoesHere kind old new (Ok x) = (done kind (state_here old) ≡ Ok (state_here new)) × (new.frame.note ≡ old.frame.note)
+  DoesHere kind old new (Err (Abort reason)) = (done kind (state_here old) ≡ Err reason) × (new ≡ old)
+  DoesHere kind old new (Err NoMemory) = new.frame.env ≡ old.frame.env
 
   -- one operation more was executed
   pub record StepsHere (txn : ℕ) (o : NumberedOp) (old new : Ground R) : Type 0 where

@@ -48,7 +48,7 @@ pub(crate) fn effect(
             ..
         } => Ok(OpEffect::Gives {
             var: *var,
-            value: column_or(row, *column, default),
+            value: *column_or(row, *column, default),
         }),
         OpKind::Has { var, .. } => Ok(OpEffect::Gives {
             var: *var,
@@ -68,13 +68,13 @@ pub(crate) fn effect(
     }
 }
 
-// The column of a row, or the default where there is no row.
-fn column_or(row: Option<&Row>, column: u16, default: &Value) -> Value
-    ensures { result ≡ column_or (option_map (λ r. r.now) row.entry) column default.now }
+/// The column of a row, or the default where there is no row. It is lent: a value is large.
+pub(crate) fn column_or<'a>(row: Option<&'a Row>, column: u16, default: &'a Value) -> &'a Value
+    ensures { result.now ≡ column_or (option_map (λ r. r.now) row.entry) column default.now }
 {
     match row {
-        Some(row) => *row.items().get(usize::from(column)).unwrap_or(default),
-        None => *default,
+        Some(row) => row.items().get(usize::from(column)).unwrap_or(default),
+        None => default,
     }
 }
 
@@ -90,8 +90,8 @@ fn stored_value(expr: &Expr, env: &Env) -> Result<Value, Trap>
     }
 }
 
-// The row of the values of expressions.
-fn row_of(alloc: Global, exprs: &[Expr], env: &Env) -> Result<Row, OpFailed>
+/// The row of the values of expressions.
+pub(crate) fn row_of(alloc: Global, exprs: &[Expr], env: &Env) -> Result<Row, OpFailed>
     requires width { IsTrue (is_width (length exprs.now)) }
     requires typed { AllByRecursion (IsStoredTyped env.now) exprs.now }
     ensures { AnswersAs result (or_abort (values exprs.now env.now)) }

@@ -23,27 +23,28 @@ pub(crate) struct Ground<R> {
     pub(crate) olds: Vec<Write>,
 }
 
-/// A row is to stand at the cell, or none. One that is put where the piece deleted none is put at once, with one look-up.
+/// A row is to stand at the cell, or none. One that is put where the piece deleted none is put at once, with one look-up. The key
+/// is copied only where it is kept.
 pub(crate) fn leave<R: Rows>(
     ground: &mut Ground<R>,
     table: u16,
-    key: Key,
+    key: &Key,
     row: Option<Row>,
 ) -> Result<(), NoMemory>
     requires there { table < R.tables ground.old.rows }
     requires stands { Stands R.held R.tables ground.old }
     ensures keeps { KeepsGround R.held R.tables ground.old ground.new }
-    ensures left { OnOk result (IsLeft R.held (table, key) row ground.old ground.new) }
+    ensures left { OnOk result (IsLeft R.held (table, key.now) row ground.old ground.new) }
     ensures values { ground.new.frame.env ≡ ground.old.frame.env }
     ensures note { ground.new.frame.note ≡ ground.old.frame.note }
 {
-    if find(&ground.frame.writes, table, &key).is_some() {
-        return change(&mut ground.frame.writes, table, key, row);
+    if find(&ground.frame.writes, table, key).is_some() {
+        return change(&mut ground.frame.writes, table, *key, row);
     }
     match row {
-        Some(row) => put(&mut ground.rows, &mut ground.olds, table, &key, row),
-        None if ground.rows.get(table, &key).is_some() => {
-            change(&mut ground.frame.writes, table, key, None)
+        Some(row) => put(&mut ground.rows, &mut ground.olds, table, key, row),
+        None if ground.rows.get(table, key).is_some() => {
+            change(&mut ground.frame.writes, table, *key, None)
         }
         None => Ok(()),
     }

@@ -21,8 +21,8 @@ use std::alloc::Global;
 use std::marker::Model;
 
 /// Tables over which pieces run in place, one after another, with the values of the transaction that runs and the least note so
-/// far. A read costs one look-up, a written row two at most, and no row is copied but those that are written. Contracts see a
-/// `Place`.
+/// far. A row that is read or put costs one look-up, one that is set or deleted two, and no row is copied but those that are
+/// written. Contracts see a `Place`.
 #[derive(Drop)]
 pub struct InPlace<R: Rows> {
     ground: Ground<R>,

@@ -10,8 +10,8 @@
 //!   values at its end, and its least note. Its writes are in tables that are there, so that they can be made.
 //! - [`InPlace`]: tables with the values of the transaction that runs and the least note so far. [`InPlace::begin`] begins a
 //!   transaction, and [`InPlace::run`] runs a piece of it: what it writes stands in the tables at once, with one look-up for a row that
-//!   is read, and two for one that is written. Out of memory the piece is undone, and nothing else; undoing takes no memory, since
-//!   a row that a piece deletes stands until its end. [`in_place_is_apply`] is the law that this is the piece applied.
+//!   is read or put, and two for one that is set or deleted. Out of memory the piece is undone, and nothing else; undoing takes no
+//!   memory, since a row that a piece deletes stands until its end. [`in_place_is_apply`] is the law that this is the piece applied.
 //! - [`is_value`] and [`work_means_piece`] are laws: functions that do nothing, whose clauses say what holds of work that is
 //!   done, and that its value is what the piece means in its plan. With the law `work` of `pac_commute` this is the piece
 //!   applied to the state, once writes and values are put in.

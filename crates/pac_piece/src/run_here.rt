@@ -1,28 +1,30 @@
 // The code of a piece over the tables themselves.
 ghost use Rattle.std.specs.Prelude.{◌≡◌, ◌<◌, ℕ, Some, true, map, IfSome, OnErr, OnOk};
+ghost use Rattle.std.specs.FinMap.{get};
 ghost use Rattle.pac_ops.specs.Defaults.{trapped_type};
 ghost use Rattle.pac_ops.specs.Flat.{all_hold};
 ghost use Rattle.pac_ops.specs.Notes.{least};
-ghost use Rattle.pac_ops.specs.Operations.{define, with_effect};
+ghost use Rattle.pac_ops.specs.Operations.{column_or, define, with_effect};
+ghost use Rattle.pac_ops.specs.declared.program.OpKind.TheVariants.{Delete, Read, Put};
 ghost use Rattle.pac_ops.specs.Uses.{defined_variable};
 ghost use Rattle.pac_ops.specs.Effects.{numbered_from, record_op};
-ghost use Rattle.pac_plan.specs.Codes.{code_ops};
+ghost use Rattle.pac_plan.specs.Codes.{IsStoredTyped, code_ops};
 ghost use Rattle.pac_piece.specs.Effects.{CanDo, effect_of};
 ghost use Rattle.pac_piece.specs.Frames.{CanRun, defaulted};
-ghost use Rattle.pac_piece.specs.InPlace.{IsLeft, KeepsGround, RunsHere, Stands, StepsHere, StopsHere, state_here};
+ghost use Rattle.pac_piece.specs.InPlace.{DoesHere, IsLeft, KeepsGround, RunsHere, Stands, StepsHere, StopsHere, state_here, tables_seen};
 ghost use Rattle.pac_piece.specs.Records.{record_cell, record_row};
 ghost use Rattle.pac_piece.specs.Sources.{HasTable, HaveTables};
 ghost use Rattle.pac_piece.specs.Steps.{GivesValueOf};
 ghost use Rattle.pac_piece.specs.Values.{CanRunCode};
 
-use crate::effects::OpEffect;
+use crate::effects::{OpEffect, column_or, row_of};
 use crate::failed::OpFailed;
 use crate::frame::lesser;
 use crate::ground::{Ground, leave};
 use crate::run_op::{default_of, touched_effect, trapped_type};
-use crate::source::Standing;
+use crate::source::{Standing, row_at};
 use pac_base::{Exact, NoMemory};
-use pac_ops::{Change, FlatOp, Note, OpKind, Reason, all_hold};
+use pac_ops::{Change, FlatOp, Note, OpKind, Reason, all_hold, key_of};
 use pac_plan::Code;
 use pac_tables::Rows;
 use pac_value::{Expr, Key, Value, eval};
@@ -102,9 +104,9 @@ fn make_change<R: Rows>(
     match change {
         Change::Put { table, key, row } => {
             let row = row.copy(alloc)?;
-            leave(ground, *table, *key, Some(row))
+            leave(ground, *table, key, Some(row))
         }
-        Change::Delete { table, key } => leave(ground, *table, *key, None),
+        Change::Delete { table, key } => leave(ground, *table, key, None),
     }
 }
 
@@ -170,12 +172,124 @@ fn run_touching_here<R: Rows>(
     ensures ok { OnOk result (StepsHere R.held txn op.now ground.old ground.new) }
     ensures err { OnErr result (ground.new.frame.env ≡ ground.old.frame.env) }
 {
-    let source = Standing { rows: &ground.rows };
-    match touched_effect(alloc, &op.1.kind, &source, &ground.frame) {
-        Ok((cell, effect)) => have(cell, effect, ground),
+    match do_here(alloc, &op.1.kind, ground) {
+        Ok(()) => Ok(()),
         Err(OpFailed::Abort(reason)) => default_here(txn, op, reason, ground),
         Err(OpFailed::NoMemory) => Err(NoMemory),
     }
+}
+
+// Does what an operation means.
+fn do_here<R: Rows>(alloc: Global, kind: &OpKind, ground: &mut Ground<R>) -> Result<(), OpFailed>
+    requires can { CanDo ground.old.frame.env kind.now }
+    requires there { HasTable (λ t. t < R.tables ground.old.rows) kind.now }
+    requires stands { Stands R.held R.tables ground.old }
+    ensures keeps { KeepsGround R.held R.tables ground.old ground.new }
+    ensures does { DoesHere R.held kind.now ground.old ground.new result }
+{
+    match kind {
+        OpKind::Read {
+            var,
+            table,
+            key,
+            column,
+            default,
+        } => read_here(*var, *table, key, *column, default, ground),
+        OpKind::Put { table, key, values } => {
+            put_here(alloc, *table, key, values.as_slice(), ground)
+        }
+        OpKind::Delete { table, key } => delete_here(*table, key, ground),
+        _ => have_effect(alloc, kind, ground),
+    }
+}
+
+// Does what a read means.
+fn read_here<R: Rows>(
+    var: u16,
+    table: u16,
+    key: &Expr,
+    column: u16,
+    default: &Value,
+    ground: &mut Ground<R>,
+) -> Result<(), OpFailed>
+    requires can { IsStoredTyped ground.old.frame.env key.now }
+    requires there { table < R.tables ground.old.rows }
+    requires stands { Stands R.held R.tables ground.old }
+    ensures keeps { KeepsGround R.held R.tables ground.old ground.new }
+    ensures does { DoesHere R.held (Read var table key.now column default.now) ground.old ground.new result }
+{
+    let key = key_of(key, &ground.frame.env)?;
+    Ok(give_column(var, table, &key, column, default, ground)?)
+}
+
+// A variable gets the value of a column. It is handed on where it stands: it is large.
+fn give_column<R: Rows>(
+    var: u16,
+    table: u16,
+    key: &Key,
+    column: u16,
+    default: &Value,
+    ground: &mut Ground<R>,
+) -> Result<(), NoMemory>
+    requires there { table < R.tables ground.old.rows }
+    requires stands { Stands R.held R.tables ground.old }
+    ensures keeps { KeepsGround R.held R.tables ground.old ground.new }
+    ensures ok { OnOk result (state_here R.held ground.new ≡ define var (column_or (get (tables_seen R.held ground.old) (table, key.now)) column default.now) (state_here R.held ground.old)) }
+    ensures err { OnErr result (ground.new.frame.env ≡ ground.old.frame.env) }
+    ensures note { ground.new.frame.note ≡ ground.old.frame.note }
+{
+    let source = Standing { rows: &ground.rows };
+    let row = row_at(&source, &ground.frame.writes, table, key);
+    let value = column_or(row, column, default);
+    ground.frame.env.set(var, value)
+}
+
+// Does what a put means. No row is looked up before it is put.
+fn put_here<R: Rows>(
+    alloc: Global,
+    table: u16,
+    key: &Expr,
+    values: &[Expr],
+    ground: &mut Ground<R>,
+) -> Result<(), OpFailed>
+    requires can { CanDo ground.old.frame.env (Put table key.now values.now) }
+    requires there { table < R.tables ground.old.rows }
+    requires stands { Stands R.held R.tables ground.old }
+    ensures keeps { KeepsGround R.held R.tables ground.old ground.new }
+    ensures does { DoesHere R.held (Put table key.now values.now) ground.old ground.new result }
+{
+    let key = key_of(key, &ground.frame.env)?;
+    let row = row_of(alloc, values, &ground.frame.env)?;
+    Ok(leave(ground, table, &key, Some(row))?)
+}
+
+// Does what a delete means. Its row is looked up once, to see whether one stands there.
+fn delete_here<R: Rows>(table: u16, key: &Expr, ground: &mut Ground<R>) -> Result<(), OpFailed>
+    requires can { IsStoredTyped ground.old.frame.env key.now }
+    requires there { table < R.tables ground.old.rows }
+    requires stands { Stands R.held R.tables ground.old }
+    ensures keeps { KeepsGround R.held R.tables ground.old ground.new }
+    ensures does { DoesHere R.held (Delete table key.now) ground.old ground.new result }
+{
+    let key = key_of(key, &ground.frame.env)?;
+    Ok(leave(ground, table, &key, None)?)
+}
+
+// Does what any operation means: its row is looked up first.
+fn have_effect<R: Rows>(
+    alloc: Global,
+    kind: &OpKind,
+    ground: &mut Ground<R>,
+) -> Result<(), OpFailed>
+    requires can { CanDo ground.old.frame.env kind.now }
+    requires there { HasTable (λ t. t < R.tables ground.old.rows) kind.now }
+    requires stands { Stands R.held R.tables ground.old }
+    ensures keeps { KeepsGround R.held R.tables ground.old ground.new }
+    ensures does { DoesHere R.held kind.now ground.old ground.new result }
+{
+    let source = Standing { rows: &ground.rows };
+    let (cell, effect) = touched_effect(alloc, kind, &source, &ground.frame)?;
+    Ok(have(cell, effect, ground)?)
 }
 
 // An effect is had.
@@ -195,7 +309,7 @@ fn have<R: Rows>(
         OpEffect::Nothing => Ok(()),
         OpEffect::Gives { var, value } => give_here(ground, var, &value),
         OpEffect::Leaves { row } => match cell {
-            Some((table, key)) => leave(ground, table, key, row),
+            Some((table, key)) => leave(ground, table, &key, row),
             None => Ok(()),
         },
     }
