@@ -12,6 +12,7 @@ use Rattle.pac_ops.specs.declared.reason.Reason.{Reason}
 use Rattle.pac_ops.specs.declared.program.OpKind.{OpKind}
 use Rattle.pac_ops.specs.declared.program.FlatOp.{FlatOp}
 use Rattle.pac_ops.specs.Reasons.{or_abort}
+use Rattle.pac_ops.specs.declared.note.Note.{Note}
 use Rattle.pac_ops.specs.Notes.{note_at, first_note}
 use Rattle.pac_ops.specs.Uses.{defined_variable, modifies}
 use Rattle.pac_ops.specs.Operations.{State, Effect, Nothing, Gives, Leaves, touched, effect, row_at, with_effect, done}
@@ -24,29 +25,29 @@ use Rattle.pac_plan.specs.declared.access.Access.{Access}
 use Rattle.pac_plan.specs.declared.access.Access.TheVariants.{Keys, Whole}
 use Rattle.pac_plan.specs.declared.access.Touch.{Touch}
 use Rattle.pac_plan.specs.Pieces.{access_of, covers, covers_write, named_cell, InputsAre}
+use Rattle.pac_plan.specs.declared.code.Code.{Code}
 use Rattle.pac_plan.specs.Codes.{code_ops}
 use Rattle.pac_plan.proofs.AccessLemmas.{covered}
 use Rattle.pac_tables.specs.declared.writes.Write.{Write}
 use Rattle.pac_tables.specs.Written.{cell_written, is_written, written}
 use Rattle.pac_piece.specs.Frames.{defaulted, done_or_defaulted, after_op, after_ops, notes_after, cell_changed, var_given, is_cell, change_row, give_value}
-use Rattle.pac_piece.specs.Values.{code_end, state_over}
-use Rattle.pac_piece.specs.PieceLaws.{SameByAccess}
+use Rattle.pac_piece.specs.Values.{IsValueOver, code_end, state_over}
 use Rattle.pac_piece.proofs.WriteLookups.{get-none}
 use Rattle.pac_piece.proofs.WithinLemmas.{keeps, writes_within_access}
 
 -- ---- what an operation finds, apart from the tables
 
 -- the row at the cell, if there is one
-row_found : Tables → Result (Option Cell) Trap → Option RowValues
+unfoldable pub row_found : Tables → Result (Option Cell) Trap → Option RowValues
 row_found rows (Ok cell) = row_at rows cell
 row_found rows (Err trap) = None
 
 -- the cell and the effect there, or why it aborts
-at_row : OpKind → Values → Result (Option Cell) Trap → Option RowValues → Result (Option Cell × Effect) Reason
+unfoldable pub at_row : OpKind → Values → Result (Option Cell) Trap → Option RowValues → Result (Option Cell × Effect) Reason
 at_row kind env r row = or_abort r >>= λ cell. effect kind env row >>= λ e. Ok (cell, e)
 
 -- the state after it
-ended : Values → Tables → Result (Option Cell × Effect) Reason → Result State Reason
+unfoldable pub ended : Values → Tables → Result (Option Cell × Effect) Reason → Result State Reason
 ended env rows (Ok step) = Ok (with_effect step.0 step.1 (state_over env rows))
 ended env rows (Err reason) = Err reason
 
@@ -55,7 +56,7 @@ cell_of : Result (Option Cell × Effect) Reason → Option Cell
 cell_of (Ok step) = step.0
 cell_of (Err reason) = None
 
-done_ended : (kind : OpKind) (env : Values) (rows : Tables) → done kind (state_over env rows) ≡ ended env rows (at_row kind env (touched kind env) (row_found rows (touched kind env)))
+pub done_ended : (kind : OpKind) (env : Values) (rows : Tables) → done kind (state_over env rows) ≡ ended env rows (at_row kind env (touched kind env) (row_found rows (touched kind env)))
 unfolding row_found at_row ended
 done_ended kind env rows = go (touched kind env)
   where
@@ -293,8 +294,9 @@ written_alike one other a e (w ∷ ws) = get-with_row (written other ws) (cell_w
     ∙ ap (cond (eq_by_cmp cell_cmp a (cell_written w)) w.row) (written_alike one other a e ws)
     ∙ sym (get-with_row (written one ws) (cell_written w) w.row a)
 
-pub same_by_access : SameByAccess
-same_by_access txn code inputs env one other are alike writes outs least_note v = record {
+pub same_by_rows : (txn : ℕ) (code : Code) (inputs env : Values) (one other : Tables) → InputsAre (code_ops code) inputs env → Alike (code_ops code) inputs one other
+    → (writes : List Write) (outs : Values) (note : Option Note) → IsValueOver txn code env one writes outs note → IsValueOver txn code env other writes outs note
+same_by_rows txn code inputs env one other are alike writes outs least_note v = record {
   rows = same_map cells_total cells_antisymmetric _ _ (λ a. at a (covers (access_of os inputs) a) refl);
   cells = λ a. v.cells a ∙ run.changed a;
   vars = λ x. v.vars x ∙ run.given x;

@@ -109,7 +109,7 @@ module _ (tables : List TableTypes) (vars : List Ty) where
       go None k = refl
       go (Some x) k = typed x (slice_get vars x) k
 
-  same_op : (o : NumberedOp) (s : State) → Typable tables vars o → after_op o.1 s ≡ flat_done vars o.1 s
+  pub same_op : (o : NumberedOp) (s : State) → Typable tables vars o → after_op o.1 s ≡ flat_done vars o.1 s
   same_op o s typable = ap (λ t. cond (all_hold s.env o.1.conds) t s) (go (done o.1.kind s) refl)
     where
       go : (r : Result State Reason) → done o.1.kind s ≡ r → done_or_defaulted o.1.kind s r ≡ done_or_default vars o.1.kind s r

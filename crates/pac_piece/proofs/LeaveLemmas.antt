@@ -1,11 +1,11 @@
 -- One row that a piece leaves, over the tables themselves.
-use Rattle.std.proofs.Common.{◌≡◌, ℕ, ◌<◌, Bool, true, false, ◌||◌, List, Option, Some, None, Result, Ok, Err, refl, sym, ap, ◌∙◌, subst, ⊎_elim, get_or}
+use Rattle.std.proofs.Common.{◌≡◌, ℕ, ◌<◌, true, false, List, Option, Some, None, Result, Ok, Err, refl, sym, ap, ◌∙◌, subst, ⊎_elim, get_or}
 use Rattle.std.specs.Prelude.{IsSome, OnErr, OnOk, is_some, position}
 use Rattle.std.specs.Option.{option_map}
 use Rattle.std.specs.Ordering.{eq_by_cmp}
 use Rattle.std.specs.FinMap.{get, insert}
 use Rattle.pac_base.proofs.TestLemmas.{or_cases}
-use Rattle.pac_value.specs.State.{Cell, cell_cmp, RowValues, Tables, with_row}
+use Rattle.pac_value.specs.State.{Cell, cell_cmp, RowValues, Tables}
 use Rattle.pac_value.proofs.CellLemmas.{tied_same}
 use Rattle.pac_tables.specs.declared.writes.Write.{Write}
 use Rattle.pac_tables.specs.Written.{IsOnce, cell_written, is_written, written}

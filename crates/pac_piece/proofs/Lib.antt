@@ -14,3 +14,5 @@ pub mod CopyLemmas
 pub mod PlaceLemmas
 pub mod LeaveLemmas
 pub mod HereLemmas
+pub mod UseLemmas
+pub mod GivenLemmas

@@ -1,17 +1,17 @@
 -- Tables in which a piece runs: what undoes its writes, and what it sees while rows that it deleted still stand.
-use Rattle.std.proofs.Common.{◌≡◌, ℕ, ◌<◌, Bool, true, false, cond, ◌||◌, List, [], ◌∷◌, ◌++◌, Option, Some, None, refl, sym, ap, ◌∙◌, subst}
+use Rattle.std.proofs.Common.{◌≡◌, ℕ, ◌<◌, Bool, true, false, cond, ◌||◌, List, [], ◌∷◌, ◌++◌, Option, Some, refl, sym, ap, ◌∙◌, subst}
 use Rattle.std.specs.Prelude.{IsSome}
 use Rattle.std.specs.Ordering.{eq_by_cmp}
-use Rattle.std.specs.FinMap.{get, insert, remove, same_map}
+use Rattle.std.specs.FinMap.{get, insert, same_map}
 use Rattle.pac_base.proofs.TestLemmas.{or_left, or_right}
 use Rattle.pac_value.specs.State.{Cell, cell_cmp, RowValues, Tables, with_row}
 use Rattle.pac_value.proofs.CellLemmas.{cells_total, cells_antisymmetric, same-cell, tied_same, get-with_row}
 use Rattle.pac_tables.specs.declared.writes.Write.{Write}
-use Rattle.pac_tables.specs.Written.{IsOnce, HasRow, cell_written, is_written, written}
+use Rattle.pac_tables.specs.Written.{IsOnce, cell_written, is_written, written}
 use Rattle.pac_tables.specs.Room.{IsReady}
-use Rattle.pac_tables.proofs.WriteLemmas.{written-last, remove-absent}
+use Rattle.pac_tables.proofs.WriteLemmas.{written-last}
 use Rattle.pac_piece.specs.InPlace.{HaveCellRoom}
-use Rattle.pac_piece.proofs.WriteLookups.{exchanged, get-none, twice}
+use Rattle.pac_piece.proofs.WriteLookups.{exchanged, get-none}
 
 -- ---- the last of the writes is made first
 

@@ -32,7 +32,7 @@ on_ok (Err e) f p = p
 
 -- ---- what the effect of an operation of a kind may be
 
-abbrev IsOfKind : OpKind → Effect → Type 0
+abbrev pub IsOfKind : OpKind → Effect → Type 0
 IsOfKind kind e = (var_left e ≡ defined_variable kind) × ((cell : Option Cell) → cell_left cell e ≡ cond (modifies kind && true) cell None)
 
 then_of : {A : Type 0} (kind : OpKind) (e : Effect) (r : Result A Reason) (f : A → Result Effect Reason) → ((a : A) → f a ≡ Ok e → IsOfKind kind e) → (r >>= f) ≡ Ok e → IsOfKind kind e
@@ -42,7 +42,7 @@ then_of kind e (Err reason) f h is = cc
 ok_of : (kind : OpKind) (e d : Effect) → IsOfKind kind d → ◌≡◌ {A = Result Effect Reason} (Ok d) (Ok e) → IsOfKind kind e
 ok_of kind e d h is = let same : d ≡ e = cc in subst (λ (x : Effect). IsOfKind kind x) same h
 
-effect_kind : (kind : OpKind) (env : Values) (row : Option RowValues) (e : Effect) → effect kind env row ≡ Ok e → IsOfKind kind e
+pub effect_kind : (kind : OpKind) (env : Values) (row : Option RowValues) (e : Effect) → effect kind env row ≡ Ok e → IsOfKind kind e
 effect_kind (Let x ex) env row e is = then_of (Let x ex) e (or_abort (value ex env)) (λ v. Ok (Gives x v)) (λ v h. ok_of (Let x ex) e (Gives x v) (refl, λ cell. refl) h) is
 effect_kind (Cond x ex) env row e is = then_of (Cond x ex) e (or_abort (value ex env)) (λ v. Ok (Gives x v)) (λ v h. ok_of (Cond x ex) e (Gives x v) (refl, λ cell. refl) h) is
 effect_kind (Read x t k c d) env row e is = ok_of (Read x t k c d) e _ (refl, λ cell. refl) is

@@ -9,7 +9,7 @@ ghost use Rattle.pac_plan.specs.Codes.{TxnFitsPlan, code_in};
 ghost use Rattle.pac_tables.specs.Written.{written};
 ghost use Rattle.pac_piece.specs.InPlace.{InPlaceIsApply};
 ghost use Rattle.pac_piece.specs.Runnable.{IsRunnable, IsRunnableOn};
-ghost use Rattle.pac_piece.specs.PieceLaws.{CodeMeansPiece, SameByAccess, WorkMeansPiece, WritesWithinAccess};
+ghost use Rattle.pac_piece.specs.PieceLaws.{CodeMeansPiece, GivesAsMeant, SameByAccess, WorkMeansPiece, WritesWithinAccess};
 
 use crate::Work;
 use pac_ops::Txn;
@@ -24,11 +24,18 @@ pub fn work_means_piece()
     ensures within { WritesWithinAccess }
 {}
 
-/// What code leaves is what the piece means in its plan, on any values and rows. It depends on the rows of the piece's access
-/// alone: run over tables it leaves the same writes, values and note as over copies of these rows.
+/// What code leaves is what the piece means in its plan, on any values and rows. It depends on the values of the variables that its
+/// operations use and on the rows of the piece's access alone: over other values of other variables, and over tables as over copies
+/// of these rows, it leaves the same writes, values and note.
 pub fn code_means_piece()
     ensures meaning { CodeMeansPiece }
     ensures by_access { SameByAccess }
+{}
+
+/// The values that a piece gives are those that the flat meaning of its operations gives, each as it stands at their end; no other
+/// variable has one.
+pub fn gives_as_meant()
+    ensures { GivesAsMeant }
 {}
 
 /// What code leaves where it is run in place is the piece applied to the state of a replay, in its plan.

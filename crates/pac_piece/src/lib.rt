@@ -18,7 +18,8 @@
 //!
 //! [`arguments_run`] is a law too: in a block to which no edge leads, work with the arguments and with copies of rows that
 //! [fit](rows_fit) can be run; [`arguments_run_on`] says the same of tables whose rows fit. [`code_means_piece`] says what code
-//! leaves over any rows, and that it is the same over the tables and over copies of the rows of its access.
+//! leaves over any rows, and that it is the same over the tables and over copies of the rows of its access, whatever values there are
+//! of variables that it doesn't use. [`gives_as_meant`] says which variables it gives values, and which values these are.
 //!
 //! ```
 //! let work = Work { piece, code, env, rows };
@@ -55,7 +56,8 @@ mod work;
 
 pub use in_place::InPlace;
 pub use laws::{
-    arguments_run, arguments_run_on, code_means_piece, in_place_is_apply, work_means_piece,
+    arguments_run, arguments_run_on, code_means_piece, gives_as_meant, in_place_is_apply,
+    work_means_piece,
 };
 pub use on_tables::{PieceOutcome, run_on};
 pub use rows::rows_fit;

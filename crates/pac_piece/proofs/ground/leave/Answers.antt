@@ -1,10 +1,8 @@
 -- The cell is among those whose rows go, or a row is put there, or goes, or none stands there.
-use Rattle.std.proofs.Common.{◌≡◌, ◌∙◌, Bool, true, false, rules, None, Some, Option, refl, sym, ap, subst}
+use Rattle.std.proofs.Common.{◌≡◌, ◌∙◌, true, false, rules, None, Option, refl, sym, ap, subst}
 use Rattle.std.specs.Prelude.{is_some, position}
-use Rattle.std.specs.Option.{option_map}
 use Rattle.std.specs.FinMap.{get}
 use Rattle.pac_value.specs.State.{Cell, RowValues}
-use Rattle.pac_tables.specs.Written.{is_written}
 use Rattle.pac_piece.specs.declared.ground.Ground.{Ground}
 use Rattle.pac_piece.specs.Changes.{is_at}
 use Rattle.pac_piece.specs.InPlace.{IsLeft}

@@ -1,13 +1,8 @@
 -- What stood at the cell is kept after all others, and is put back first.
-use Rattle.std.proofs.Common.{◌≡◌, ◌∷◌, [], ◌++◌, List, Some, sym, ap, ◌∙◌, subst}
-use Rattle.std.specs.FinMap.{get, insert}
-use Rattle.pac_value.specs.State.{Cell, Tables}
+use Rattle.std.proofs.Common.{◌∷◌, [], ◌++◌, List, sym, ap, ◌∙◌, subst}
 use Rattle.pac_tables.specs.declared.writes.Write.{Write}
-use Rattle.pac_tables.specs.Written.{written}
-use Rattle.pac_tables.specs.Room.{IsReady}
-use Rattle.pac_tables.proofs.WriteLemmas.{written-last}
 use Rattle.pac_piece.specs.InPlace.{HaveCellRoom}
-use Rattle.pac_piece.proofs.PlaceLemmas.{put-back, room-kept, before-kept}
+use Rattle.pac_piece.proofs.PlaceLemmas.{room-kept, before-kept}
 use Rattle.pac_piece.proofs.ground.put.Goals as goal
 
 pub returns-clause-before : goal.returns-clause-before

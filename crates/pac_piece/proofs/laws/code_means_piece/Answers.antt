@@ -1,5 +1,5 @@
 use Rattle.pac_piece.proofs.MeaningLemmas.{code_means_piece}
-use Rattle.pac_piece.proofs.AlikeLemmas.{same_by_access}
+use Rattle.pac_piece.proofs.UseLemmas.{same_by_access}
 use Rattle.pac_piece.proofs.laws.code_means_piece.Goals as goal
 
 pub returns : goal.returns

@@ -1,12 +1,12 @@
 -- One operation more is executed, or none where it finds no memory.
-use Rattle.std.proofs.Common.{◌≡◌, ◌<◌, ◌+◌, List, [], ◌∷◌, ◌++◌, length, drop, take, sym, ap, ◌∙◌, subst, arith}
+use Rattle.std.proofs.Common.{◌≡◌, ◌<◌, ◌+◌, List, [], ◌∷◌, ◌++◌, length, drop, take, sym, ap, ◌∙◌, subst}
 use Rattle.std.proofs.lemmas.List.{drop_more, take_more}
 use Rattle.pac_ops.specs.Effects.{NumberedOp}
 use Rattle.pac_ops.specs.Operations.{State}
 use Rattle.pac_piece.specs.Frames.{CanRun}
 use Rattle.pac_piece.specs.InPlace.{state_here}
 use Rattle.pac_piece.specs.Sources.{HaveTables}
-use Rattle.pac_piece.proofs.HereLemmas.{all_here, keeps_more, keeps_none, more_here, none_here, stops_here}
+use Rattle.pac_piece.proofs.HereLemmas.{keeps_more, keeps_none, more_here, none_here}
 use Rattle.pac_piece.proofs.run_here.run_ops_here.Goals as goal
 
 pub loop-op-init : goal.loop-op-init

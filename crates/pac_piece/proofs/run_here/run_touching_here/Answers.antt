@@ -1,7 +1,6 @@
 -- The operation does what it means, or leaves a note.
-use Rattle.std.proofs.Common.{◌≡◌, ◌∙◌, refl, subst}
-use Rattle.pac_piece.specs.declared.ground.Ground.{Ground}
-use Rattle.pac_piece.specs.InPlace.{DoesHere, state_here}
+use Rattle.std.proofs.Common.{subst}
+use Rattle.pac_piece.specs.InPlace.{DoesHere}
 use Rattle.pac_piece.proofs.HereLemmas.{done_here}
 use Rattle.pac_piece.proofs.run_here.run_touching_here.Goals as goal
 
