@@ -17,8 +17,9 @@
 //! ```
 //!
 //! No row is copied but those that a piece writes, no access is computed, nothing is compared, and no lock is taken: a row that
-//! is read costs one look-up, one that is written two. The values of variables are those of the transaction that runs, and a
-//! batch is let go once its transactions are finished, so what is kept is what wasn't run yet.
+//! is read or put costs one look-up, one that is set or deleted two. A procedure's code is lent to its pieces by the plan. The values
+//! of variables are those of the transaction that runs, and a batch is let go once its transactions are finished, so what is kept is
+//! what wasn't run yet.
 //!
 //! A contract sees a `Course` (`specs/Courses.antt`): the job, the batches that were loaded, and the pieces that are finished, in
 //! the order in which they ran. They are the first pieces in the order of transactions and blocks, each once. By the laws of

@@ -6,7 +6,7 @@ ghost use Rattle.pac_commute.specs.Loads.{world_of};
 ghost use Rattle.pac_in_order.specs.Courses.{IsRunInOrder, course_present};
 ghost use Rattle.pac_in_order.specs.Lines.{IsAtPiece, KeepsLine, course_of, line_batches, line_job, opening_tables};
 
-use crate::blocks::code_of;
+use crate::blocks::run_piece;
 use crate::line::Line;
 use pac_base::NoMemory;
 use pac_ops::{Gate, PieceId};
@@ -79,6 +79,5 @@ fn run_at<R: Rows>(
         unreachable!()
     };
     let txn = &batch.txns.items()[line.txn];
-    let code = code_of(alloc, line.plan.get(), txn, piece.block)?;
-    place.run(alloc, piece, code.get())
+    run_piece(alloc, line.plan.get(), txn, piece, place)
 }

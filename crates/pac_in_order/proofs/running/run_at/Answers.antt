@@ -1,5 +1,5 @@
 -- The piece at the place can be run, and leaves what it leaves; or it is undone.
-use Rattle.std.proofs.Common.{◌≡◌, List, sym, ap, subst, ◌∙◌}
+use Rattle.std.proofs.Common.{◌≡◌, ◌<◌, List, sym, ap, subst, ◌∙◌}
 use Rattle.std.specs.Prelude.{Result, Ok, Err, OnOk, OnErr, slice_index_or}
 use Rattle.std.proofs.lemmas.Option.{same_Some, slice_get_within}
 use Rattle.pac_value.specs.State.{Tables}
@@ -37,33 +37,28 @@ ran_err : {E : Type 0} (line : Line) (opening : Tables) (place : Place) (keeps :
 ran_err line opening place keeps piece at code is new (Ok u) err = tt
 ran_err line opening place keeps piece at code is new (Err e) err = undone_keeps line opening place keeps piece at new (subst (λ k. IsUndone k place new) is err)
 
-pub code_of-requires-clause-fits : goal.code_of-requires-clause-fits
-code_of-requires-clause-fits g c =
+pub run_piece-requires : goal.run_piece-requires
+run_piece-requires g c =
     let line = c.args.line.now in
     let opening : Tables = opening_tables g.R.Rows.held c.args.opening.now.items in
     let same = at_place line c.args.piece c.requires.at c.in-Some.batch.now c.in-Some.ensures.lookup c.items.result.now c.items.ensures.value c.index-items-line.result c.index-items-line.is in
-    subst (λ (p : PlanParts). TxnFitsPlan p c.index-items-line.result) (sym c.get.ensures) (subst (TxnFitsPlan line.plan) (sym same) (fits line opening c.args.place.now c.requires.keeps c.args.piece c.requires.at))
-
-pub run-requires : goal.run-requires
-run-requires g c =
-    let line = c.args.line.now in
-    let opening : Tables = opening_tables g.R.Rows.held c.args.opening.now.items in
-    let same = at_place line c.args.piece c.requires.at c.in-Some.batch.now c.in-Some.ensures.lookup c.items.result.now c.items.ensures.value c.index-items-line.result c.index-items-line.is in
-    let code : c.get-2.result.now ≡ code_in line.plan c.args.piece.block c.requires.at.txn = c.get-2.ensures ∙ c.in_ok-code.ensures ∙ (λ i. code_in (c.get.ensures i) c.args.piece.block (same i)) in
-    subst (λ (k : Code). IsRunnableOn c.args.piece.block k c.args.place.now.values c.args.place.now.count c.args.place.now.tables) (sym code) (runnable line opening c.args.place.now c.requires.keeps c.args.piece c.requires.at)
+    record {
+      fits = subst (λ (p : PlanParts). TxnFitsPlan p c.index-items-line.result) (sym c.get.ensures) (subst (TxnFitsPlan line.plan) (sym same) (fits line opening c.args.place.now c.requires.keeps c.args.piece c.requires.at));
+      block = subst (λ (p : PlanParts). c.args.piece.block < p.blocks) (sym c.get.ensures) c.requires.at.below;
+      runs = subst (λ (k : Code). IsRunnableOn c.args.piece.block k c.args.place.now.values c.args.place.now.count c.args.place.now.tables)
+          (sym (λ i. code_in (c.get.ensures i) c.args.piece.block (same i))) (runnable line opening c.args.place.now c.requires.keeps c.args.piece c.requires.at);
+    }
 
 pub returns-clause-ok : goal.returns-clause-ok
 returns-clause-ok g c =
     let line = c.args.line.now in
     let opening : Tables = opening_tables g.R.Rows.held c.args.opening.now.items in
     let same = at_place line c.args.piece c.requires.at c.in-Some.batch.now c.in-Some.ensures.lookup c.items.result.now c.items.ensures.value c.index-items-line.result c.index-items-line.is in
-    let code : c.get-2.result.now ≡ code_in line.plan c.args.piece.block c.requires.at.txn = c.get-2.ensures ∙ c.in_ok-code.ensures ∙ (λ i. code_in (c.get.ensures i) c.args.piece.block (same i)) in
-    ran_ok line opening c.args.place.now c.requires.keeps c.args.piece c.requires.at c.get-2.result.now code c.run.new.self c.run.result c.run.ensures.ok
+    ran_ok line opening c.args.place.now c.requires.keeps c.args.piece c.requires.at _ (λ i. code_in (c.get.ensures i) c.args.piece.block (same i)) c.run_piece.new.place c.run_piece.result c.run_piece.ensures.ok
 
 pub returns-clause-err : goal.returns-clause-err
 returns-clause-err g c =
     let line = c.args.line.now in
     let opening : Tables = opening_tables g.R.Rows.held c.args.opening.now.items in
     let same = at_place line c.args.piece c.requires.at c.in-Some.batch.now c.in-Some.ensures.lookup c.items.result.now c.items.ensures.value c.index-items-line.result c.index-items-line.is in
-    let code : c.get-2.result.now ≡ code_in line.plan c.args.piece.block c.requires.at.txn = c.get-2.ensures ∙ c.in_ok-code.ensures ∙ (λ i. code_in (c.get.ensures i) c.args.piece.block (same i)) in
-    ran_err line opening c.args.place.now c.requires.keeps c.args.piece c.requires.at c.get-2.result.now code c.run.new.self c.run.result c.run.ensures.err
+    ran_err line opening c.args.place.now c.requires.keeps c.args.piece c.requires.at _ (λ i. code_in (c.get.ensures i) c.args.piece.block (same i)) c.run_piece.new.place c.run_piece.result c.run_piece.ensures.err
