@@ -1,8 +1,10 @@
 -- Runs one after another keep what they acknowledge.
-use Rattle.std.proofs.Common.{◌≡◌, ◌∙◌, ◌⊎◌, ◌≤◌, ◌+◌, ℕ, zero, suc, List, [], ◌∷◌, ◌++◌, length, take, drop, Option, Some, None, inl, inr, refl, sym, ap, subst, arith}
-use Rattle.std.specs.Prelude.{◌≢◌}
+use Rattle.std.proofs.Common.{◌≡◌, ◌∙◌, ◌⊎◌, ◌≤◌, ◌+◌, ◌||◌, ◌==◌, ℕ, zero, suc, Bool, false, List, [], ◌∷◌, ◌++◌, length, take, drop, Option, Some, None, inl, inr, refl, sym, ap, subst, arith}
+use Rattle.std.specs.Prelude.{◌≢◌, IsTrue}
+use Rattle.std.specs.List.{list_any}
 use Rattle.std.specs.FinMap.{empty}
 use Rattle.std.proofs.lemmas.List.{append-nil, take-append-drop, take-append-le}
+use Rattle.pac_base.proofs.TestLemmas.{or_of_false, same_number, unlike}
 use Rattle.pac_ops.specs.declared.transaction.Txn.{Txn}
 use Rattle.pac_outside.specs.Devices.{AllLeave, AreImages, OnceKnown, all_known}
 use Rattle.pac_outside.specs.Disk.{DiskState, DiskHistory, IsImage, settled}
@@ -16,17 +18,16 @@ use Rattle.pac_types.specs.Accepted.{IsAccepted}
 use Rattle.pac_store.specs.Images.{Images, IfImagesKnown}
 use Rattle.pac_store.proofs.ImageLemmas.{devices-same, images-of}
 use Rattle.pac_store.specs.Stands.{StandsFor}
-use Rattle.pac_store.proofs.StandsLemmas.{goes-on}
 use Rattle.pac_store.specs.Made.{IsNewStore, MakesStore}
 use Rattle.pac_session.specs.Session.{Rules, SessionState, committed}
 use Rattle.pac_run.specs.Acked.{Acknowledges}
 use Rattle.pac_run.specs.Opening.{AllStand}
-use Rattle.pac_run.specs.Run.{AtExit, IsBegun, IsExit, WhileAllStand, history_after}
-use Rattle.pac_engine.specs.Standing.{WhileKnown}
+use Rattle.pac_run.specs.Run.{history_after}
 use Rattle.pac_main.specs.Init.{InitEnds, IsStoreText}
-use Rattle.pac_main.specs.Headline.{AreAsLeft, AreFound, AreRuns, HoldImages, IsNextRun, KeepsAll, OneRun, RecoversExactly}
-use Rattle.pac_main.specs.Recover.{RecoverEnds, RecoversPrefix}
-use Rattle.pac_main.specs.Streams.{Observed, ObservedDevices}
+use Rattle.pac_main.specs.Headline.{AreAsLeft, AreFound, AreRuns, HoldImages, IsNextRun, KeepsAll, Life, OneRun, RecoversExactly}
+use Rattle.pac_main.specs.Histories.{Commits, FoundStanding, StandsForNone, LeavesHistory}
+use Rattle.pac_main.specs.Recover.{Recovery, RecoversPrefix}
+use Rattle.pac_main.specs.Streams.{IsOneOf, Observed, ObservedDevices}
 
 -- ---- prefixes of lists
 
@@ -93,12 +94,17 @@ new_devices text catalogue accepted exit new images are =
     (same_image (header_bytes (header_with First text) ++ 0 ∷ []) images.log exit.log.now new.0 are.log) (same_image (0 ∷ []) images.slot_a exit.slot_a.now new.1 are.slot_a) (same_image (0 ∷ []) images.slot_b exit.slot_b.now new.2 are.slot_b)
 
 pub new-store : (text : List ℕ) (input errors : Observed) (devices : ObservedDevices) (entry exit : Devices DiskHistory) → InitEnds 0 input errors devices
-    → input.before ≡ Some text → all_known devices.before ≡ Some entry → all_known devices.after ≡ Some exit → (catalogue : CatalogueState) × AllStand text catalogue [] 0 exit
+    → input.before ≡ Some text → all_known devices.before ≡ Some entry → all_known devices.after ≡ Some exit → (catalogue : CatalogueState) × StandsForNone text catalogue exit
 new-store text input errors devices entry exit ends read known following =
     let done = ends.done refl in
     let of : ((catalogue : CatalogueState) × IsAccepted done.0 catalogue) × (text ≡ done.0) = subst (λ (o : Option (List ℕ)). IsStoreText done.0 o) read done.1 in
-    let made : MakesStore done.0 entry exit = subst (λ (o : Option (Devices DiskHistory)). OnceKnown (MakesStore done.0) (Some entry) o) following (subst (λ (o : Option (Devices DiskHistory)). OnceKnown (MakesStore done.0) o (all_known devices.after)) known done.2) in
-    (of.0.0, λ images are. subst (λ (t : List ℕ). StandsFor t of.0.0 [] 0 images) (sym of.1) (new_devices done.0 of.0.0 of.0.1 exit made.1 images are))
+    let made : MakesStore done.0 entry exit = subst (λ (o : Option (Devices DiskHistory)). OnceKnown (MakesStore done.0) (Some entry) o) following (subst (λ (o : Option (Devices DiskHistory)). OnceKnown (MakesStore done.0) o (all_known devices.after)) known done.2) in (
+      of.0.0,
+      record {
+        accepted = subst (λ (t : List ℕ). IsAccepted t of.0.0) (sym of.1) of.0.1;
+        stands = λ images are. subst (λ (t : List ℕ). StandsFor t of.0.0 [] 0 images) (sym of.1) (new_devices done.0 of.0.0 of.0.1 exit made.1 images are);
+      },
+    )
 
 -- ---- how devices are found
 
@@ -141,11 +147,11 @@ module _ (text : List ℕ) (catalogue : CatalogueState) where
     pub is : IsNextRun history run next
     pub more : least ≤ kept
     pub same : take least next ≡ take least history
-    pub acknowledged : (number : ℕ) → Acknowledges run.ends.is.out number → number ≤ kept
+    pub acknowledged : (number : ℕ) → Acknowledges run.out number → number ≤ kept
     pub stands : AllStand text catalogue next kept run.exit
 
   -- nothing was written
-  unwritten : (history : List Txn) (least : ℕ) (run : OneRun) → run.ends.is.out ≡ [] → AllStand text catalogue history least run.exit → After history least run
+  unwritten : (history : List Txn) (least : ℕ) (run : OneRun) → run.out ≡ [] → AllStand text catalogue history least run.exit → After history least run
   unwritten history least run none stands = record {
     next = history;
     kept = least;
@@ -156,55 +162,30 @@ module _ (text : List ℕ) (catalogue : CatalogueState) where
     stands = stands;
   }
 
-  -- the session began with what is stored
-  begun_number : (history : List Txn) (least place : ℕ) (rules : Rules) (start : SessionState) (images : Images) → StandsFor text catalogue history least images → IsBegun rules place start images
-      → (least ≤ start.number) × (start.number ≤ length history)
-  begun_number history least place rules start images stands begun =
-      let on = goes-on text catalogue history least images begun.recovered.stored stands begun.recovered.is in
-      (subst (λ (n : ℕ). least ≤ n) (sym begun.recovered.counted) on.enough, subst (λ (n : ℕ). n ≤ length history) (sym begun.recovered.counted) on.within)
-
   module _ (history : List Txn) (least : ℕ) (left : Devices DiskHistory) (run : OneRun) (stands : AllStand text catalogue history least left) (found : AreFound left run.entry) where
-    all_stand : AllLeave (StandsFor text catalogue history least) run.entry
-    all_stand others leave = stands others (found.images others leave)
+    standing : FoundStanding text catalogue history least run.entry
+    standing = record { images = λ others leave. stands others (found.images others leave); read = stands (reads_of run.entry) found.read }
 
-    -- what is said of known devices that stand for the history
-    knows : (R : List ℕ → CatalogueState → List Txn → ℕ → Devices DiskHistory → Devices DiskHistory → Type 0) → WhileAllStand R run.devices.before run.devices.after → R text catalogue history least run.entry run.exit
-    knows R h = subst (λ (o : Option (Devices DiskHistory)). WhileKnown stood there (Some run.entry) o) run.known_after (subst (λ (o : Option (Devices DiskHistory)). WhileKnown stood there o (all_known run.devices.after)) run.known (h text catalogue history least)) all_stand
-      where
-        stood : Devices DiskHistory → Type 0
-        stood = AllLeave (StandsFor text catalogue history least)
-
-        there : Devices DiskHistory → Devices DiskHistory → Type 0
-        there = R text catalogue history least
-
-    abbrev after : List Txn
-    after = history_after history run.ends.is.rules run.ends.is.start run.ends.is.requests
-
-    abbrev Begun : Images → Type 0
-    Begun images = IsBegun run.ends.is.rules run.ends.is.place run.ends.is.start images
-
-    -- the history with what the session commits, which began with what is stored
-    committed_after : Begun (reads_of run.entry) → IsExit text catalogue after run.ends.is.start.number run.ends.is.out run.exit → After history least run
-    committed_after begun e =
-        let number : (least ≤ run.ends.is.start.number) × (run.ends.is.start.number ≤ length history)
-        = begun_number history least run.ends.is.place run.ends.is.rules run.ends.is.start (reads_of run.entry) (stands (reads_of run.entry) found.read) begun in
-        let prefix = take_length run.ends.is.start.number history number.1 in
+    -- the history with what the session commits
+    committed_after : Commits text catalogue history least run.rules run.start run.requests run.out run.exit → After history least run
+    committed_after c =
+        let prefix = take_length run.start.number history c.within in
         record {
-          next = after;
-          kept = e.least;
+          next = history_after history run.rules run.start run.requests;
+          kept = c.kept;
           is = inr refl;
-          more = omega (arith, number.0, e.more);
-          same = prefix_on least run.ends.is.start.number history (committed run.ends.is.rules run.ends.is.start run.ends.is.requests) (omega (arith, number.0, prefix));
-          acknowledged = e.acknowledged;
-          stands = λ images are. (e.stands images are).stands;
+          more = omega (arith, c.enough, c.more);
+          same = prefix_on least run.start.number history (committed run.rules run.start run.requests) (omega (arith, c.enough, prefix));
+          acknowledged = c.acknowledged;
+          stands = c.stands;
         }
 
-    at : ((run.ends.is.out ≡ []) × AllLeave (AreImages run.entry) run.exit) ⊎ (Begun (reads_of run.entry) × IsExit text catalogue after run.ends.is.start.number run.ends.is.out run.exit) → After history least run
-    at (inl none) = unwritten history least run none.0 (λ images are. all_stand images (none.1 images are))
-    at (inr e) = committed_after e.0 e.1
+    at : LeavesHistory text catalogue history least run.rules run.start run.requests run.out run.entry run.exit → After history least run
+    at (inl none) = unwritten history least run none.0 (λ images are. standing.images images (none.1 images are))
+    at (inr c) = committed_after c
 
     pub following : After history least run
-    following = at (knows (λ t c h k. AtExit t c h run.ends.is.rules run.ends.is.place run.ends.is.start run.ends.is.requests run.ends.is.out) run.ends.is.exit)
+    following = at (run.leaves text catalogue history least standing)
 
   -- ---- any number of runs
 
@@ -235,28 +216,29 @@ module _ (text : List ℕ) (catalogue : CatalogueState) where
 
 -- ---- and what is recovered after them
 
-recovers_here : (limit status : ℕ) (text : List ℕ) (catalogue : CatalogueState) (history : List Txn) (least : ℕ) (before : Devices (Option DiskHistory)) (devices : ObservedDevices) (output : Observed) (entry : Devices DiskHistory)
-    → all_known before ≡ Some entry → StandsFor text catalogue history least (reads_of entry)
-    → IfImagesKnown (λ images. StandsFor text catalogue history least images → RecoversPrefix limit status catalogue history least devices output) before → RecoversPrefix limit status catalogue history least devices output
-recovers_here limit status text catalogue history least before devices output entry known stands h =
-    images-of (λ images. StandsFor text catalogue history least images → RecoversPrefix limit status catalogue history least devices output) before entry known h stands
-
 pub recovers-all : (text : List ℕ) (catalogue : CatalogueState) (history : List Txn) (least : ℕ) (left : Devices DiskHistory) → AllStand text catalogue history least left
-    → (limit status : ℕ) (devices : ObservedDevices) (output errors : Observed) (entry : Devices DiskHistory) → all_known devices.before ≡ Some entry → AreFound left entry → RecoverEnds limit status devices output errors
+    → (limit status : ℕ) (devices : ObservedDevices) (output : Observed) (found : Devices DiskHistory) → all_known devices.before ≡ Some found → AreFound left found → Recovery limit status devices output
     → RecoversPrefix limit status catalogue history least devices output
-recovers-all text catalogue history least left stands limit status devices output errors entry known found ends =
-    recovers_here limit status text catalogue history least devices.before devices output entry known (stands (reads_of entry) found.read) (ends.stands text catalogue history least)
+recovers-all text catalogue history least left stands limit status devices output found known as_left recovery =
+    images-of (λ images. StandsFor text catalogue history least images → RecoversPrefix limit status catalogue history least devices output) devices.before found known (recovery.stands text catalogue history least) (stands (reads_of found) as_left.read)
 
-pub exact : (text : List ℕ) (input made_errors : Observed) (made : ObservedDevices) (empty first : Devices DiskHistory) → InitEnds 0 input made_errors made
-    → input.before ≡ Some text → all_known made.before ≡ Some empty → all_known made.after ≡ Some first
-    → (runs : List OneRun) (left : Devices DiskHistory) → AreRuns first runs left
-    → (limit status : ℕ) (devices : ObservedDevices) (output errors : Observed) (entry : Devices DiskHistory) → all_known devices.before ≡ Some entry → AreFound left entry → RecoverEnds limit status devices output errors
-    → RecoversExactly text runs left limit status devices output
-exact text input made_errors made empty first ends read known known_after runs left are limit status devices output errors entry entered found recovered =
-    let new = new-store text input made_errors made empty first ends read known known_after in
-    let keeps = keeps-all text new.0 [] 0 first left runs new.1 are in
+-- of these statuses it has none that says that the store is damaged, or that a transaction aborts
+few_statuses : (status : ℕ) → IsOneOf status (0 ∷ 3 ∷ 4 ∷ 5 ∷ 7 ∷ 8 ∷ 9 ∷ []) → status ≢ 3 → status ≢ 4 → IsOneOf status (0 ∷ 5 ∷ 7 ∷ 8 ∷ 9 ∷ [])
+few_statuses status one damaged aborted =
+    let three : (3 == status) ≡ false = unlike (3 == status) (λ e. damaged (sym (same_number 3 status e))) in
+    let four : (4 == status) ≡ false = unlike (4 == status) (λ e. aborted (sym (same_number 4 status e))) in
+    let rest = list_any (λ s. s == status) (5 ∷ 7 ∷ 8 ∷ 9 ∷ []) in
+    subst (λ (b : Bool). IsTrue ((0 == status) || b)) (or_of_false (3 == status) ((4 == status) || rest) three ∙ or_of_false (4 == status) rest four) one
+
+pub exact : (life : Life) → RecoversExactly life
+exact life =
+    let keeps = keeps-all life.text life.catalogue [] 0 life.first life.left life.runs life.made.stands life.ran in
+    let recovers = recovers-all life.text life.catalogue keeps.last keeps.kept life.left keeps.stands life.limit life.status life.devices life.output life.found life.known life.begun life.recovery in
     record {
-      catalogue = new.0;
+      accepted = life.made.accepted;
       keeps = keeps;
-      recovers = recovers-all text new.0 keeps.last keeps.kept left keeps.stands limit status devices output errors entry entered found recovered;
+      statuses = few_statuses life.status life.recovery.statuses recovers.undamaged recovers.executes;
+      recovers = recovers;
+      output_fault = life.recovery.output_fault;
+      disk_fault = life.recovery.disk_fault;
     }

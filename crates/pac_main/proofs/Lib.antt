@@ -10,4 +10,5 @@ pub mod RecoverLemmas
 pub mod RunStatusLemmas
 pub mod RunLemmas
 pub mod IdleLemmas
+pub mod HistoryLemmas
 pub mod HeadlineLemmas

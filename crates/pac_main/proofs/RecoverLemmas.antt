@@ -211,10 +211,14 @@ module _ (limit : ℕ) (devices : ObservedDevices) (sink errors : Observed) wher
 
   ends_reported : (stop : Stop) → RecoverStops limit devices sink stop → devices.after ≡ devices.before → IsReported errors (line_of stop) → RecoverEnds limit (status_of stop) devices sink errors
   ends_reported stop h same line = record {
-    statuses = status stop h.cause;
-    stands = λ text catalogue history least.
-        images-then (λ images. StandsFor text catalogue history least images → IsPrefixUnrecovered limit catalogue history least sink stop) (λ images. StandsFor text catalogue history least images → RecoversPrefix limit (status_of stop) catalogue history least devices sink)
-        (λ images f stands. stopped catalogue history least stop h.cause (f stands)) devices.before (h.stands text catalogue history least);
+    is = record {
+      statuses = status stop h.cause;
+      stands = λ text catalogue history least.
+          images-then (λ images. StandsFor text catalogue history least images → IsPrefixUnrecovered limit catalogue history least sink stop) (λ images. StandsFor text catalogue history least images → RecoversPrefix limit (status_of stop) catalogue history least devices sink)
+          (λ images f stands. stopped catalogue history least stop h.cause (f stands)) devices.before (h.stands text catalogue history least);
+      output_fault = λ seven. (subst (IsUnrecovered limit devices sink) (output_of stop seven) h.cause).0;
+      disk_fault = λ eight. subst (IsUnrecovered limit devices sink) (disk_of stop eight) h.cause;
+    };
     done = λ zero. absurd (never_done stop zero);
     refused = λ three. refused stop (device_of stop three) h.cause line;
     aborted = λ four. let a = aborted_of stop four in (a.note, subst (IsUnrecovered limit devices sink) a.is h.cause, subst (λ (s : Stop). IsReported errors (line_of s)) a.is line);
@@ -222,8 +226,7 @@ module _ (limit : ℕ) (devices : ObservedDevices) (sink errors : Observed) wher
         let o = over_of stop five in
         let why = subst (IsUnrecovered limit devices sink) o.is h.cause in
         (o.name, o.rows, why.1, subst (λ (n : ℕ). IsReported errors (line_of (RowsOver o.name o.rows n))) why.0 (subst (λ (s : Stop). IsReported errors (line_of s)) o.is line));
-    output_fault = λ seven. subst (IsUnrecovered limit devices sink) (output_of stop seven) h.cause;
-    disk_fault = λ eight. subst (IsUnrecovered limit devices sink) (disk_of stop eight) h.cause;
+    output_fault = λ seven. (subst (IsUnrecovered limit devices sink) (output_of stop seven) h.cause).1;
     untouched = same;
     complete = recovers_all stop h;
     quiet = λ other. h.quiet (λ is. other (subst (λ (s : Stop). status_of s ≡ 8) (sym is) refl));
@@ -248,16 +251,19 @@ module _ (limit : ℕ) (devices : ObservedDevices) (sink errors : Observed) wher
 
   pub recover-done : IsRecovered limit devices sink → devices.after ≡ devices.before → RecoverEnds limit 0 devices sink errors
   recover-done h same = record {
-    statuses = refl;
-    stands = λ text catalogue history least.
-        images-then (λ images. StandsFor text catalogue history least images → IsDumpOfPrefix limit catalogue history least (IsTaken sink)) (λ images. StandsFor text catalogue history least images → RecoversPrefix limit 0 catalogue history least devices sink)
-        (λ images f stands. finished catalogue history least (f stands)) devices.before (h.stands text catalogue history least);
+    is = record {
+      statuses = refl;
+      stands = λ text catalogue history least.
+          images-then (λ images. StandsFor text catalogue history least images → IsDumpOfPrefix limit catalogue history least (IsTaken sink)) (λ images. StandsFor text catalogue history least images → RecoversPrefix limit 0 catalogue history least devices sink)
+          (λ images f stands. finished catalogue history least (f stands)) devices.before (h.stands text catalogue history least);
+      output_fault = λ seven. absurd (omega (arith, seven));
+      disk_fault = λ eight. absurd (omega (arith, eight));
+    };
     done = λ zero. h.dump;
     refused = λ three. absurd (omega (arith, three));
     aborted = λ four. absurd (omega (arith, four));
     over_limit = λ five. absurd (omega (arith, five));
     output_fault = λ seven. absurd (omega (arith, seven));
-    disk_fault = λ eight. absurd (omega (arith, eight));
     untouched = same;
     complete = λ text catalogue history least.
         images-any (λ images. StandsFor text catalogue history least images → StoredInLimit limit images → IsFaultless devices sink → IsOneOf 0 (0 ∷ 9 ∷ [])) (λ images stands stays none. refl) devices.before;

@@ -24,6 +24,7 @@ use Rattle.pac_recover.proofs.StandsLemmas.{is-store, no-abort, no-log-damage, n
 use Rattle.pac_session.specs.Groups.{Group}
 use Rattle.pac_session.specs.Session.{Rules, SessionState}
 use Rattle.pac_engine.specs.Closing.{GroupFits}
+use Rattle.pac_engine.specs.Standing.{WhileAllKnown}
 use Rattle.pac_request.specs.declared.request.Request.{Request}
 use Rattle.pac_request.specs.declared.request.Reply.{Reply}
 use Rattle.pac_run.specs.Run.{IsRun}
@@ -33,12 +34,14 @@ use Rattle.pac_run.specs.Texts.{IsTextPrefix, texts}
 use Rattle.pac_run.specs.declared.stop.RunStop.{RunStop}
 use Rattle.pac_run.specs.declared.stop.RunStop.TheVariants as run
 use Rattle.pac_main.specs.Causes.{RunCause}
+use Rattle.pac_main.specs.Histories.{FoundStanding, LeavesHistory}
 use Rattle.pac_main.specs.Recover.{IsRefusedStore, StoredInLimit}
 use Rattle.pac_main.specs.Run.{HaveRoom, LeavesStore, RunEnds, RunsOnPrefix}
 use Rattle.pac_main.specs.Stop.{line_of, status_of, stop_of_recover, stop_of_run, takes_memory}
 use Rattle.pac_main.specs.Streams.{AnyFaulted, IsFaultless, IsOneOf, IsReported, Observed, ObservedDevices}
 use Rattle.pac_main.specs.declared.stop.Stop.{Stop}
 use Rattle.pac_main.specs.declared.stop.Stop.TheVariants as stop
+use Rattle.pac_main.proofs.HistoryLemmas.{leaves-history}
 use Rattle.pac_main.proofs.IdleLemmas.{idle-run, no_memory}
 use Rattle.pac_main.proofs.InputLemmas.{some_is}
 use Rattle.pac_main.proofs.RecoverLemmas.{uncalled}
@@ -200,6 +203,10 @@ module _ (group_size limit : ℕ) (source sink errors : Observed) (before after 
   abbrev Ran : Result (Unit {0}) RunStop → Type 0
   Ran end = IsRun group_size limit source.before source.after sink.before sink.after devices.before devices.after (AnyFaulted sink) end
 
+  left_of : (end : Result (Unit {0}) RunStop) (ran : Ran end) (text : List ℕ) (catalogue : CatalogueState) (history : List Txn) (least : ℕ)
+      → WhileAllKnown (FoundStanding text catalogue history least) (LeavesHistory text catalogue history least ran.rules ran.start ran.requests ran.out) before after
+  left_of end ran = leaves-history group_size limit source.before source.after sink.before sink.after before after (AnyFaulted sink) end ran
+
   abbrev Cause : RunStop → Type 0
   Cause = RunCause limit source sink devices
 
@@ -299,6 +306,7 @@ module _ (group_size limit : ℕ) (source sink errors : Observed) (before after 
     statuses = run_status why;
     end = Err why;
     is = ran;
+    leaves = left_of (Err why) ran;
     stands = λ text catalogue history least.
         images-then (λ images. StandsFor text catalogue history least images → IsPrefixStop limit catalogue history least why) (λ images. StandsFor text catalogue history least images → RunsOnPrefix limit (status_of (stop_of_run why)) catalogue history least)
         (λ images f stands. prefix_of limit catalogue history least why (f stands)) before (run-prefix limit source sink after was is text catalogue history least before why h);
@@ -327,6 +335,7 @@ module _ (group_size limit : ℕ) (source sink errors : Observed) (before after 
     statuses = subst (λ (m : ℕ). IsOneOf m (0 ∷ 3 ∷ 4 ∷ 5 ∷ 6 ∷ 7 ∷ 8 ∷ 9 ∷ 10 ∷ 11 ∷ 12 ∷ [])) (sym nine) refl;
     end = end;
     is = ran;
+    leaves = left_of end ran;
     stands = λ text catalogue history least.
         images-any (λ images. StandsFor text catalogue history least images → RunsOnPrefix limit n catalogue history least)
         (λ images stands. other_prefix limit n catalogue history least (λ e. absurd (omega (arith, nine, e))) (λ e. absurd (omega (arith, nine, e))) (λ e. absurd (omega (arith, nine, e)))) before;
@@ -356,6 +365,7 @@ module _ (group_size limit : ℕ) (source sink errors : Observed) (before after 
     statuses = refl;
     end = Ok tt;
     is = ran;
+    leaves = left_of (Ok tt) ran;
     stands = λ text catalogue history least.
         images-any (λ images. StandsFor text catalogue history least images → RunsOnPrefix limit 0 catalogue history least)
         (λ images stands. other_prefix limit 0 catalogue history least (λ e. absurd (omega (arith, e))) (λ e. absurd (omega (arith, e))) (λ e. absurd (omega (arith, e)))) before;

@@ -6,6 +6,7 @@ pub mod Replay
 pub mod Stress
 pub mod Run
 pub mod Headline
+pub mod Histories
 pub mod Explained
 pub mod Init
 pub mod Recover

@@ -69,18 +69,24 @@ IsRefusedStore devices errors = (HasNoStore devices × IsReported errors (codes 
 abbrev pub StoredInLimit : ℕ → Images → Type 0
 StoredInLimit limit images = (name : List ℕ) (rows : ℕ) → ¬ IsOverIn name rows limit images
 
--- how `recover` ends under a limit of rows: the statuses that it may have, and a line for each that has a cause; the devices
--- are only read
-pub record RecoverEnds (limit status : ℕ) (devices : ObservedDevices) (output errors : Observed) : Type 0 where
+-- What a recovery says where its devices stand for a history, whatever its cause: the statuses that it may have, what it wrote
+-- there, and that a fault of a device or of the output is an outside one.
+pub record Recovery (limit status : ℕ) (devices : ObservedDevices) (output : Observed) : Type 0 where
   pub statuses : IsOneOf status (0 ∷ 3 ∷ 4 ∷ 5 ∷ 7 ∷ 8 ∷ 9 ∷ [])
   pub stands : (text : List ℕ) (catalogue : CatalogueState) (history : List Txn) (least : ℕ)
       → IfImagesKnown (λ images. StandsFor text catalogue history least images → RecoversPrefix limit status catalogue history least devices output) devices.before
+  pub output_fault : status ≡ 7 → AnyFaulted output
+  pub disk_fault : status ≡ 8 → OneFaulted devices.faults_before devices.faults_after
+
+-- how `recover` ends under a limit of rows: the statuses that it may have, and a line for each that has a cause; the devices
+-- are only read
+pub record RecoverEnds (limit status : ℕ) (devices : ObservedDevices) (output errors : Observed) : Type 0 where
+  pub is : Recovery limit status devices output
   pub done : status ≡ 0 → IsRecovery limit devices.before (IsTaken output)
   pub refused : status ≡ 3 → IsRefusedStore devices.before errors
   pub aborted : status ≡ 4 → (note : Note) × IfImagesKnown (AbortsIn note) devices.before × IsReported errors (abort_line note)
   pub over_limit : status ≡ 5 → (name : List ℕ) × (rows : ℕ) × IfImagesKnown (IsOverIn name rows limit) devices.before × IsReported errors (rows_line name rows limit)
-  pub output_fault : status ≡ 7 → AnyFaulted output × IsRecovery limit devices.before (IsPrefixTaken output)
-  pub disk_fault : status ≡ 8 → OneFaulted devices.faults_before devices.faults_after
+  pub output_fault : status ≡ 7 → IsRecovery limit devices.before (IsPrefixTaken output)
   pub untouched : devices.after ≡ devices.before
   -- on devices that stand for a history, whose tables stay within the limit, where no fault was counted, they are recovered, or
   -- there was no memory

@@ -14,11 +14,13 @@ use Rattle.pac_request.specs.declared.request.Request.{Request}
 use Rattle.pac_session.specs.Groups.{cut}
 use Rattle.pac_session.specs.Session.{Rules, SessionState}
 use Rattle.pac_engine.specs.Closing.{GroupFits, IsTooLarge}
+use Rattle.pac_engine.specs.Standing.{WhileAllKnown}
 use Rattle.pac_run.specs.declared.limits.TheConstants.{MAX_INPUT}
 use Rattle.pac_run.specs.Run.{IsRun}
 use Rattle.pac_run.specs.Stopping.{DeviceFailed, RefusesStore, closed_groups}
 use Rattle.pac_run.specs.declared.stop.RunStop.{RunStop}
 use Rattle.pac_run.specs.declared.stop.RunStop.TheVariants as run
+use Rattle.pac_main.specs.Histories.{FoundStanding, LeavesHistory}
 use Rattle.pac_main.specs.Recover.{IsRefusedStore, StoredInLimit}
 use Rattle.pac_main.specs.Stop.{abort_line, full_line, rows_line, too_large_line}
 use Rattle.pac_main.specs.Streams.{Observed, ObservedDevices, AnyFaulted, IsFaultless, IsReported, IsOneOf}
@@ -48,6 +50,9 @@ pub record RunEnds (group_size limit status : ℕ) (input output errors : Observ
   -- why the run stopped before its end, if it did, and its parts; one of them says by this where it stopped
   pub end : Result (Unit {0}) RunStop
   pub is : IsRun group_size limit input.before input.after output.before output.after devices.before devices.after (AnyFaulted output) end
+  -- what it leaves of a history
+  pub leaves : (text : List ℕ) (catalogue : CatalogueState) (history : List Txn) (least : ℕ)
+      → WhileAllKnown (FoundStanding text catalogue history least) (LeavesHistory text catalogue history least is.rules is.start is.requests is.out) devices.before devices.after
   pub stands : (text : List ℕ) (catalogue : CatalogueState) (history : List Txn) (least : ℕ)
       → IfImagesKnown (λ images. StandsFor text catalogue history least images → RunsOnPrefix limit status catalogue history least) devices.before
   -- the cause of each status, and its line

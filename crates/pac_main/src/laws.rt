@@ -1,5 +1,5 @@
 // Laws over whole runs. Each is a function without code.
-ghost use Rattle.std.specs.Prelude.{◌≡◌, ℕ, List, [], Some};
+ghost use Rattle.std.specs.Prelude.{◌≡◌, ℕ, List, Some};
 ghost use Rattle.pac_ops.specs.declared.transaction.Txn.{Txn as ATxn};
 ghost use Rattle.pac_outside.specs.Devices.{AreImages, all_known};
 ghost use Rattle.pac_outside.specs.Disk.{DiskHistory};
@@ -7,27 +7,28 @@ ghost use Rattle.pac_outside.specs.Parts.{reads_of};
 ghost use Rattle.pac_outside.specs.declared.devices.Devices.{Devices as ADevices};
 ghost use Rattle.pac_types.specs.Typing.{CatalogueState};
 ghost use Rattle.pac_run.specs.Opening.{AllStand};
-ghost use Rattle.pac_main.specs.Headline.{AreAsLeft, AreFound, AreRuns, HoldImages, KeepsAll, OneRun, RecoversExactly};
+ghost use Rattle.pac_main.specs.Headline.{AreAsLeft, AreFound, AreRuns, HoldImages, KeepsAll, Life, OneRun, RecoversExactly};
+ghost use Rattle.pac_main.specs.Histories.{StandsForNone};
 ghost use Rattle.pac_main.specs.Init.{InitEnds};
-ghost use Rattle.pac_main.specs.Recover.{RecoverEnds, RecoversPrefix};
+ghost use Rattle.pac_main.specs.Recover.{Recovery, RecoversPrefix};
 ghost use Rattle.pac_main.specs.Streams.{Observed, ObservedDevices};
 
-/// **Recovery is exact.** A store was made by an `init` that answered 0; any runs went over it, one after another, each begun
-/// on what a crash or a kill left of the one before, at whatever moment it stopped; and then `recover` ends. It has written the
-/// dump of the tables that serial execution gives, in commit order, for a prefix of the committed transactions that holds every
-/// acknowledged one; or it names an outside fault that rose, a table over the row limit, or that it ran out of memory.
+/// **Recovery is exact.** A store was made; any runs went over it, one after another, each begun on what a crash or a kill left of
+/// the one before, at whatever moment it stopped; and then a recovery ended. It has written the dump of the tables that serial
+/// execution gives, in commit order, for a prefix of the committed transactions that holds every acknowledged one; or it names an
+/// outside fault that rose, a table over the row limit, or that it ran out of memory.
+///
+/// The parts of a [`Life`](../specs/Headline.antt) are what the clauses of [`pacman`](crate::pacman) say: an `init` that answers 0
+/// makes a store by [`a_new_store_stands_for_none`], a run leaves a history as `RunEnds.leaves` says, and `RecoverEnds.is` is the
+/// recovery.
 pub fn recovery_is_exact()
-    ensures { (text : List ℕ) (input made_errors : Observed) (made : ObservedDevices) (empty first : ADevices DiskHistory) → InitEnds 0 input made_errors made
-        → input.before ≡ Some text → all_known made.before ≡ Some empty → all_known made.after ≡ Some first
-        → (runs : List OneRun) (left : ADevices DiskHistory) → AreRuns first runs left
-        → (limit status : ℕ) (devices : ObservedDevices) (output errors : Observed) (entry : ADevices DiskHistory) → all_known devices.before ≡ Some entry → AreFound left entry → RecoverEnds limit status devices output errors
-        → RecoversExactly text runs left limit status devices output }
+    ensures { (life : Life) → RecoversExactly life }
 {}
 
-/// A store that `init` makes stands for no transactions, whatever a crash leaves of it.
+/// The store that `init` makes of a text stands for no transactions, whatever a crash leaves of it.
 pub fn a_new_store_stands_for_none()
     ensures { (text : List ℕ) (input errors : Observed) (devices : ObservedDevices) (entry exit : ADevices DiskHistory) → InitEnds 0 input errors devices
-        → input.before ≡ Some text → all_known devices.before ≡ Some entry → all_known devices.after ≡ Some exit → (catalogue : CatalogueState) × AllStand text catalogue [] 0 exit }
+        → input.before ≡ Some text → all_known devices.before ≡ Some entry → all_known devices.after ≡ Some exit → (catalogue : CatalogueState) × StandsForNone text catalogue exit }
 {}
 
 /// Any number of runs, one after another, on a store that stands for a history, as a new one does for none. What the last of
@@ -41,7 +42,7 @@ pub fn runs_keep_what_is_acknowledged()
 /// transactions as they stand for; or it names a fault that rose, a table over the limit of rows, or that it is out of memory.
 pub fn recover_gives_what_is_acknowledged()
     ensures { (text : List ℕ) (catalogue : CatalogueState) (history : List ATxn) (least : ℕ) (left : ADevices DiskHistory) → AllStand text catalogue history least left
-        → (limit status : ℕ) (devices : ObservedDevices) (output errors : Observed) (entry : ADevices DiskHistory) → all_known devices.before ≡ Some entry → AreFound left entry → RecoverEnds limit status devices output errors
+        → (limit status : ℕ) (devices : ObservedDevices) (output : Observed) (found : ADevices DiskHistory) → all_known devices.before ≡ Some found → AreFound left found → Recovery limit status devices output
         → RecoversPrefix limit status catalogue history least devices output }
 {}
 
