@@ -265,14 +265,14 @@ workers)
     done
     ;;
 restarts)
-    # The instructions of a restart in pieces, by one worker, beside those of one by serial execution.
+    # The instructions of a recovery by one worker, in place, beside those of a restart by serial execution.
     logs
     for name in bank hot many long200; do
         (
             cd $name
             counted "$name: run restarts, serially" "$pacman" run < /dev/null
             instructions "$pacman" recover --workers 1 < /dev/null
-            echo "$name: recover, in pieces"
+            echo "$name: recover by one worker, in place"
             echo "  instructions: $(cat count)"
         )
     done
