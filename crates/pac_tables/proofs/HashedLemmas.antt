@@ -33,11 +33,11 @@ keys_tie = key_ties
 same_test : key_eq ≡ eq_by_cmp key_cmp
 same_test = λ i a b. keys_tie a b i
 
-same_keys : IsEquivalence key_eq
+pub same_keys : IsEquivalence key_eq
 same_keys = subst (λ (E : Key → Key → Bool). IsEquivalence E) (sym same_test) (eq_by_cmp_equiv keys_total)
 
 -- a key is among those of entries exactly where a look-up finds it
-member-lookup : (es : List (Key × RowValues)) (q : Key) → is_member key_eq (keys_of es) q ≡ is_some (lookup (key_eq q) es)
+pub member-lookup : (es : List (Key × RowValues)) (q : Key) → is_member key_eq (keys_of es) q ≡ is_some (lookup (key_eq q) es)
 member-lookup [] q = refl
 member-lookup (e ∷ es) q = go (key_eq q e.0) (member-lookup es q)
   where
@@ -81,13 +81,13 @@ all-below : (k : Key) (es : List (Key × RowValues)) → T (below_all key_cmp k 
 all-below k [] h = tt
 all-below k (e ∷ es) h = (less _ (first _ _ h), all-below k es (second _ _ h))
 
-strictly : (es : List (Key × RowValues)) → T (is_sorted key_cmp es) → IsStrictlySortedBy key_cmp (map (λ e. e.0) es)
+pub strictly : (es : List (Key × RowValues)) → T (is_sorted key_cmp es) → IsStrictlySortedBy key_cmp (map (λ e. e.0) es)
 unfolding IsStrictlySortedBy
 strictly [] h = tt
 strictly (e ∷ es) h = (all-below e.0 es (first _ _ h), strictly es (second _ _ h))
 
 -- the keys of a finite map all differ
-keys-differ : (made : OneTable) → IsDistinct key_eq (keys made)
+pub keys-differ : (made : OneTable) → IsDistinct key_eq (keys made)
 keys-differ made = subst (λ (E : Key → Key → Bool). IsDistinct E (keys made)) (sym same_test) (IsDistinct-from_sorted key_cmp (keys made) (strictly (entries made) (entries_sorted made)))
 
 -- there are as many

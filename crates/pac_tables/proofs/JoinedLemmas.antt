@@ -19,7 +19,7 @@ use Rattle.pac_value.specs.State.{Cell, cell_cmp, RowValues, keys_among, keys_of
 use Rattle.pac_tables.specs.Joined.{OneTable, at_cells, entries_from, joined_tables}
 
 -- the entries at cells of a table, as entries of that table
-pub part : ℕ → List (Cell × RowValues) → List (Key × RowValues)
+unfoldable pub part : ℕ → List (Cell × RowValues) → List (Key × RowValues)
 part t [] = []
 part t (e ∷ es) = cond (e.0.0 == t) ((e.0.1, e.1) ∷ part t es) (part t es)
 
@@ -32,7 +32,7 @@ apart t u h = grind (arith, nat_tests)
 apart_above : (t u : ℕ) → u < t → (u == t) ≡ false
 apart_above t u h = grind (arith, nat_tests)
 
-part-append : (t : ℕ) (xs ys : List (Cell × RowValues)) → part t (xs ++ ys) ≡ part t xs ++ part t ys
+pub part-append : (t : ℕ) (xs ys : List (Cell × RowValues)) → part t (xs ++ ys) ≡ part t xs ++ part t ys
 unfolding part
 part-append t [] ys = refl
 part-append t (x ∷ xs) ys = go (part-append t xs ys) (x.0.0 == t)
@@ -85,7 +85,7 @@ part-from s (suc d) (m ∷ ms) =
     ∙ part-from (s + 1) d ms
 
 -- what is found at a cell is what is found at the key in the table's part
-find-part : (t : ℕ) (k : Key) (es : List (Cell × RowValues)) → find cell_cmp (t, k) es ≡ find key_cmp k (part t es)
+pub find-part : (t : ℕ) (k : Key) (es : List (Cell × RowValues)) → find cell_cmp (t, k) es ≡ find key_cmp k (part t es)
 unfolding part
 find-part t k [] = refl
 find-part t k (e ∷ es) = go (find-part t k es) (nat_cmp t e.0.0) (ranked t e.0.0 (nat_cmp t e.0.0) refl)
@@ -96,7 +96,7 @@ find-part t k (e ∷ es) = go (find-part t k es) (nat_cmp t e.0.0) (ranked t e.0
     go rest Greater h = rest ∙ sym (ap (λ b. find key_cmp k (cond b ((e.0.1, e.1) ∷ part t es) (part t es))) (apart_above t e.0.0 h))
 
 -- the keys at cells of a table are those of its part
-keys-part : (t : ℕ) (es : List (Cell × RowValues)) → keys_among (map (λ e. e.0) es) t ≡ map (λ e. e.0) (part t es)
+pub keys-part : (t : ℕ) (es : List (Cell × RowValues)) → keys_among (map (λ e. e.0) es) t ≡ map (λ e. e.0) (part t es)
 unfolding part
 keys-part t [] = refl
 keys-part t (e ∷ es) = go (keys-part t es) (e.0.0 == t)
@@ -105,7 +105,7 @@ keys-part t (e ∷ es) = go (keys-part t es) (e.0.0 == t)
     go rest true = ap (λ ks. e.0.1 ∷ ks) rest
     go rest false = rest
 
-less-here : (t : ℕ) (o : Ordering) → ordering_then (nat_cmp t t) o ≡ o
+pub less-here : (t : ℕ) (o : Ordering) → ordering_then (nat_cmp t t) o ≡ o
 less-here t o = go (nat_cmp t t) (ranked t t (nat_cmp t t) refl)
   where
     go : (r : Ordering) → MatchOrdering r (t < t) (t ≡ t) (t < t) → ordering_then r o ≡ o

@@ -3,5 +3,5 @@ pub mod CopyLemmas
 pub mod WriteLemmas
 pub mod RoomLemmas
 pub mod OnceLemmas
-mod HashedLemmas
+pub mod HashedLemmas
 pub mod SortedRowLemmas
