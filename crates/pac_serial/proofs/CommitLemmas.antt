@@ -160,7 +160,7 @@ brought-back n t cs sorted unmade = same_map cells_total cells_antisymmetric _ _
 
 -- ---- what is so of each change
 
-all_known : (P : Change → Type 0) (cs : List Change) → T (is_sorted cell_cmp cs) → ((q : Cell) (pending : Pending) → find cell_cmp q cs ≡ Some pending → P (q, pending)) → All P cs
+pub all_known : (P : Change → Type 0) (cs : List Change) → T (is_sorted cell_cmp cs) → ((q : Cell) (pending : Pending) → find cell_cmp q cs ≡ Some pending → P (q, pending)) → All P cs
 all_known P [] sorted known = All-nil P
 all_known P (c ∷ cs) sorted known =
     All-cons P c cs (known c.0 c.1 (find-first c cs)) (all_known P cs (sorted-after c cs sorted) (λ q pending found. known q pending (find-after c cs sorted q pending found)))

@@ -17,7 +17,7 @@ use Rattle.pac_value.specs.Expressions.{Values, types_of}
 use Rattle.pac_value.specs.State.{Cell, cell_cmp, RowValues, Tables, with_row}
 use Rattle.pac_types.specs.declared.table.Table.{Table}
 use Rattle.pac_ops.specs.declared.shapes.TableTypes.{TableTypes}
-use Rattle.pac_ops.specs.Shapes.{RowFits}
+use Rattle.pac_ops.specs.Shapes.{KeyFits, RowFits}
 use Rattle.pac_ops.specs.Operations.{column_or}
 use Rattle.pac_types.specs.WellFormed.{column_types}
 use Rattle.pac_tables.specs.Joined.{Held}
@@ -26,8 +26,9 @@ use Rattle.pac_types.specs.Fits.{shape, FitTables, FitsCatalogue}
 use Rattle.pac_types.proofs.ShapeLemmas.{columns-of_fit}
 use Rattle.pac_value.specs.Scopes.{with_var, is_wanted, are_wanted}
 use Rattle.pac_value.proofs.CellLemmas.{get-with_row, tied_same}
-use Rattle.pac_serial.specs.WriteSets.{Changes, as_changed, AreUnmade}
+use Rattle.pac_serial.specs.WriteSets.{Changes, as_changed, AreUnmade, ChangesAt}
 use Rattle.pac_serial.specs.Transactions.{RunsOver}
+use Rattle.pac_serial.proofs.WritesLemmas.{keys_fit-more}
 
 and-left : (a b : Bool) → (a && b) ≡ true → a ≡ true
 and-left true b h = refl
@@ -154,17 +155,18 @@ table-within P tables t h = go (slice_get (map shape tables) t) refl h
 
 -- a transaction that has made one more change still runs over the rows
 pub runs-changed : (tables : List Table) (n : ℕ) (held : Tables) (old new : Changes) (p : Cell) (row : Option RowValues)
-    → RunsOver tables n held old → ((r : RowValues) → row ≡ Some r → RowFits (map shape tables) p r)
-    → as_changed held new ≡ with_row (as_changed held old) p row → AreUnmade n new → RunsOver tables n held new
-runs-changed tables n held old new p row over fits is unmade = record {
+    → RunsOver tables n held old → IsSomeAnd (slice_get (map shape tables) p.0) (KeyFits p.1) → ((r : RowValues) → row ≡ Some r → RowFits (map shape tables) p r)
+    → as_changed held new ≡ with_row (as_changed held old) p row → AreUnmade n new → ChangesAt (p ∷ []) old new → RunsOver tables n held new
+runs-changed tables n held old new p row over key fits is unmade writes = record {
   count = over.count;
   unmade = unmade;
   fits = subst (λ (t : Tables). FitTables tables t) (sym is) (FitTables-with_row tables (as_changed held old) p row over.fits fits);
+  keys = keys_fit-more tables old new p key writes over.keys;
 }
 
-pub on-ok-both : {A E : Type 0} (r : Result A E) {P Q : Type 0} → OnOk r P → (P → Q) → OnOk r Q
-on-ok-both (Ok x) h f = f h
-on-ok-both (Err e) h f = tt
+pub on-ok-both : {A E : Type 0} (r : Result A E) {P Q S : Type 0} → OnOk r P → OnOk r Q → (P → Q → S) → OnOk r S
+on-ok-both (Ok x) h k f = f h k
+on-ok-both (Err e) h k f = tt
 
 -- so the tables of a catalogue fit it where they have no rows
 pub fits-none : (cat : CatalogueState) (n : ℕ) (held : Held) → held ≡ record { tables = n; rows = empty } → n ≡ length cat.tables → FitsCatalogue cat held.tables held.rows

@@ -1,6 +1,8 @@
 pub mod WriteSetLemmas
+pub mod WritesLemmas
 pub mod BalanceLemmas
 pub mod CommitLemmas
+pub mod ListedLemmas
 pub mod LimitLemmas
 pub mod FitLemmas
 pub mod RowLemmas

@@ -1,5 +1,5 @@
 -- What statements do over values by the numbers of the text is what their steps do, but for the numbers of variables.
-use Rattle.std.proofs.Common.{◌≡◌, ◌≢◌, ◌<◌, ◌≤◌, ℕ, suc, ◌+◌, ◌*◌, ◌==◌, ◌&&◌, ◌||◌, ℤ, Bool, true, false, cond, List, [], ◌∷◌, length, get_or, map, Option, Some, None, Result, Ok, Err, is_some, refl, sym, ap, subst, ◌∙◌, arith}
+use Rattle.std.proofs.Common.{◌≡◌, ◌≢◌, ◌<◌, ◌≤◌, ℕ, suc, ◌+◌, ◌*◌, ◌==◌, ◌&&◌, ◌||◌, ℤ, Bool, true, false, cond, List, [], ◌∷◌, ◌++◌, length, get_or, map, Option, Some, None, Result, Ok, Err, is_some, OnOk, refl, sym, ap, subst, ◌∙◌, append_assoc, append-nil, arith}
 use Rattle.std.specs.Prelude.{if◌then◌else◌, unwrap_or, slice_get}
 use Rattle.std.specs.Cmp.{nat_cmp_total, unsigned_ties}
 use Rattle.std.specs.FinMap.{get, insert, empty, get-insert}
@@ -31,14 +31,15 @@ use Rattle.pac_types.specs.declared.table.Table.{Table}
 use Rattle.pac_types.specs.Meaning.{Abort, at_operation, branch, step_count, runs, meaning}
 use Rattle.pac_types.specs.Typing.{IsProc}
 use Rattle.pac_types.specs.Fits.{FitParams}
-use Rattle.pac_types.specs.Unrolled.{UnrolledSteps, End, Branch, turns, turn_numbers, renamed, renamed_step, renamed_kind, Point, with_next, with_turn, with_defined, Unrolling, all_after, in_steps, after_turns, in_turns, unroll_step, unrolling, beginning}
+use Rattle.pac_types.specs.Unrolled.{UnrolledSteps, End, Branch, turns, turn_numbers, renamed, renamed_step, renamed_kind, Point, with_next, with_turn, with_defined, Unrolling, all_after, in_steps, after_turns, in_turns, unroll_step, unrolling, beginning, unrolled}
 use Rattle.pac_types.specs.Variables.{variables_step, stmt_variables, defined_variables}
 use Rattle.pac_types.specs.WellFormed.{types, key_type, column_type, column_types, if_so, without, Check, any_defines, in_order, check_step, check, scope_of, scope_after_all}
 use Rattle.pac_types.proofs.PartLemmas.{equal}
 use Rattle.pac_types.proofs.RunsOnLemmas.{RunsOn, runs_on-parts, runs_on-proc, variable_list, variables-one, all_names-kept, turn_names-kept}
 use Rattle.pac_types.proofs.StmtShapes.{form_of, is_test, IsOne, IsConditional, IsLoop, all_by_shape}
 use Rattle.pac_types.proofs.UnrolledLemmas.{unrolling-one, length-ascending, next-grows, all_next-grows, all_steps-count}
-use Rattle.pac_serial.specs.TextMeaning.{Code, run_codes, run_turns, code_step, code, code_count, text_meaning}
+use Rattle.pac_serial.specs.Writes.{if_well, cells_in, cells_put, cells_run}
+use Rattle.pac_serial.specs.TextMeaning.{Code, run_codes, run_turns, code_cells, turn_cells, code_step, code, code_count, text_meaning, text_cells}
 use Rattle.pac_serial.proofs.CodeLemmas.{code-one, count-all-operations}
 use Rattle.pac_serial.proofs.OpeningLemmas.{argument-at}
 
@@ -322,48 +323,79 @@ module _ (k : ℕ) (f g : Scope) (p : Point) (text own : Values) (pic : Pictures
       let a = so_is (is_bool (type_in f e)) f g ok in
       subst (λ r. Followed p (asking (value e text) (s tables)) (asking r (o tables))) (sym (bool-value f p text own pic e a.0)) (asking-follow (value e text) tables a.1)
 
+  -- it writes the same cell
+  same-cells : (t : ℕ) (key : Expr) (ts : List Table) → is_wanted (type_in f key) (key_type ts t) ≡ true → if_well cells_in (value (renamed p.names key) own >>= λ v. Ok (Some (t, as_key v))) ≡ if_well cells_in (value key text >>= λ v. Ok (Some (t, as_key v)))
+  same-cells t key ts wanted = ap (λ (r : Result Value Trap). if_well cells_in (r >>= λ v. Ok (Some (t, as_key v)))) (wanted-value f p text own pic key (key_type ts t) wanted)
+
+  cells-kind : (ts : List Table) (kind : OpKind) → (check_step ts (form_of Check kind)).after f ≡ Some g → (tables : Tables) → cells_put (renamed_kind p kind) (o tables) ≡ cells_put kind (s tables)
+  cells-kind ts (kind.Let x e) ok tables = refl
+  cells-kind ts (kind.Cond x e) ok tables = refl
+  cells-kind ts (kind.Read x t key c d) ok tables = refl
+  cells-kind ts (kind.Has x t key) ok tables = refl
+  cells-kind ts (kind.Put t key es) ok tables =
+      let a = so_is (is_wanted (type_in f key) (key_type ts t) && is_width (length es) && are_wanted (map (type_in f) es) (column_types ts t)) f g ok in
+      let b = and_parts (is_wanted (type_in f key) (key_type ts t) && is_width (length es)) (are_wanted (map (type_in f) es) (column_types ts t)) a.0 in
+      same-cells t key ts (and_parts (is_wanted (type_in f key) (key_type ts t)) (is_width (length es)) b.0).0
+  cells-kind ts (kind.SetCol t key c e) ok tables =
+      let a = so_is (is_wanted (type_in f key) (key_type ts t) && is_wanted (type_in f e) (column_type ts t c)) f g ok in
+      same-cells t key ts (and_parts (is_wanted (type_in f key) (key_type ts t)) (is_wanted (type_in f e) (column_type ts t c)) a.0).0
+  cells-kind ts (kind.Delete t key) ok tables = same-cells t key ts (so_is (is_wanted (type_in f key) (key_type ts t)) f g ok).0
+  cells-kind ts (kind.AbortIf e) ok tables = refl
+
 -- ---- statements
 
--- what a text does, against what steps do: they go on with those after them, from the same tables
-abbrev Follow : ℕ → ℕ → Scope → ℕ → Point → Values → Values → UnrolledSteps → Result State Abort → Result State Abort → Type 0
-Follow k n g m q text own rest (Ok t) does = (now : Values) × Pictures g q t.env now × Keeps k text t.env × Keeps m own now × (does ≡ runs rest n (record { env = now; tables = t.tables }))
-Follow k n g m q text own rest (Err abort) does = does ≡ Err abort
+-- what a text does and which cells it writes, against what steps do and write: they go on with those after them, from the same tables
+abbrev Follow : ℕ → ℕ → Scope → ℕ → Point → Values → Values → UnrolledSteps → Result State Abort → List Cell → Result State Abort → List Cell → Type 0
+Follow k n g m q text own rest (Ok t) cells does writes = (now : Values) × Pictures g q t.env now × Keeps k text t.env × Keeps m own now × (does ≡ runs rest n (record { env = now; tables = t.tables })) × (writes ≡ cells ++ cells_run rest n (record { env = now; tables = t.tables }))
+Follow k n g m q text own rest (Err abort) cells does writes = does ≡ Err abort
 
 -- one after another
-follow-then : (k k' n n' m m' : ℕ) (f g : Scope) (p q : Point) (text own : Values) (between rest : UnrolledSteps) (r does : Result State Abort) (F : State → Result State Abort) → k ≤ k' → m ≤ m'
-    → Follow k n f m p text own between r does → ((t : State) (now : Values) → Pictures f p t.env now → Follow k' n' g m' q t.env now rest (F t) (runs between n (record { env = now; tables = t.tables }))) → Follow k n' g m q text own rest (r >>= F) does
-follow-then k k' n n' m m' f g p q text own between rest (Err abort) does F le up h later = h
-follow-then k k' n n' m m' f g p q text own between rest (Ok t) does F le up (now, pic, text_keeps, own_keeps, is) later = go (F t) (later t now pic)
+follow-then : (k k' n n' m m' : ℕ) (f g : Scope) (p q : Point) (text own : Values) (between rest : UnrolledSteps) (r : Result State Abort) (cells : List Cell) (does : Result State Abort) (writes : List Cell) (F : State → Result State Abort) (G : State → List Cell) → k ≤ k' → m ≤ m'
+    → Follow k n f m p text own between r cells does writes
+    → ((t : State) (now : Values) → Pictures f p t.env now → Follow k' n' g m' q t.env now rest (F t) (G t) (runs between n (record { env = now; tables = t.tables })) (cells_run between n (record { env = now; tables = t.tables })))
+    → Follow k n' g m q text own rest (r >>= F) (if_well (λ t. cells ++ G t) r) does writes
+follow-then k k' n n' m m' f g p q text own between rest (Err abort) cells does writes F G le up h later = h
+follow-then k k' n n' m m' f g p q text own between rest (Ok t) cells does writes F G le up (now, pic, text_keeps, own_keeps, is, all) later = go (F t) (later t now pic)
   where
-    go : (r : Result State Abort) → Follow k' n' g m' q t.env now rest r (runs between n (record { env = now; tables = t.tables })) → Follow k n' g m q text own rest r does
+    go : (r : Result State Abort) → Follow k' n' g m' q t.env now rest r (G t) (runs between n (record { env = now; tables = t.tables })) (cells_run between n (record { env = now; tables = t.tables })) → Follow k n' g m q text own rest r (cells ++ G t) does writes
     go (Err abort) e = is ∙ e
-    go (Ok u) (last, pic', text_keeps', own_keeps', is') = (
+    go (Ok u) (last, pic', text_keeps', own_keeps', is', all') = (
       last,
       pic',
       keeps-trans k text t.env u.env text_keeps (λ z lt. text_keeps' z (omega (arith, lt, le))),
       keeps-trans m own now last own_keeps (λ z lt. own_keeps' z (omega (arith, lt, up))),
       is ∙ is',
+      all ∙ ap (λ (cs : List Cell). cells ++ cs) all' ∙ sym (append_assoc cells (G t) (cells_run rest n' (record { env = last; tables = u.tables }))),
     )
 
 -- seen from before
-follow-from : (k k' n m m' : ℕ) (f g : Scope) (p q : Point) (text text' own own' : Values) (rest : UnrolledSteps) (r does : Result State Abort) → Follow k' n f m' p text' own' rest r does
-    → ((t : State) (now : Values) → Pictures f p t.env now → Keeps k' text' t.env → Keeps m' own' now → Pictures g q t.env now × Keeps k text t.env × Keeps m own now) → Follow k n g m q text own rest r does
-follow-from k k' n m m' f g p q text text' own own' rest (Err abort) does h from = h
-follow-from k k' n m m' f g p q text text' own own' rest (Ok t) does (now, pic, a, b, is) from = let c = from t now pic a b in (now, c.0, c.1, c.2, is)
+follow-from : (k k' n m m' : ℕ) (f g : Scope) (p q : Point) (text text' own own' : Values) (rest : UnrolledSteps) (r : Result State Abort) (cells : List Cell) (does : Result State Abort) (writes : List Cell) → Follow k' n f m' p text' own' rest r cells does writes
+    → ((t : State) (now : Values) → Pictures f p t.env now → Keeps k' text' t.env → Keeps m' own' now → Pictures g q t.env now × Keeps k text t.env × Keeps m own now) → Follow k n g m q text own rest r cells does writes
+follow-from k k' n m m' f g p q text text' own own' rest (Err abort) cells does writes h from = h
+follow-from k k' n m m' f g p q text text' own own' rest (Ok t) cells does writes (now, pic, a, b, is, all) from = let c = from t now pic a b in (now, c.0, c.1, c.2, is, all)
 
 -- with what comes after it
-follow-end : (k n n' m : ℕ) (g : Scope) (q : Point) (text own : Values) (rest : UnrolledSteps) (r does : Result State Abort) → Follow k n g m q text own End r does → Follow k n' g m q text own rest r (does >>= λ t. runs rest n' t)
-follow-end k n n' m g q text own rest (Err abort) does h = ap (λ (r : Result State Abort). r >>= λ t. runs rest n' t) h
-follow-end k n n' m g q text own rest (Ok t) does (now, pic, a, b, is) = (now, pic, a, b, ap (λ (r : Result State Abort). r >>= λ t. runs rest n' t) is)
+follow-end : (k n n' m : ℕ) (g : Scope) (q : Point) (text own : Values) (rest : UnrolledSteps) (r : Result State Abort) (cells : List Cell) (does : Result State Abort) (writes : List Cell) → Follow k n g m q text own End r cells does writes
+    → Follow k n' g m q text own rest r cells (does >>= λ t. runs rest n' t) (if_well (λ t. writes ++ cells_run rest n' t) does)
+follow-end k n n' m g q text own rest (Err abort) cells does writes h = ap (λ (r : Result State Abort). r >>= λ t. runs rest n' t) h
+follow-end k n n' m g q text own rest (Ok t) cells does writes (now, pic, a, b, is, all) = (
+  now,
+  pic,
+  a,
+  b,
+  ap (λ (r : Result State Abort). r >>= λ t. runs rest n' t) is,
+  ap (λ (r : Result State Abort). if_well (λ t. writes ++ cells_run rest n' t) r) is ∙ ap (λ (cs : List Cell). cs ++ cells_run rest n' (record { env = now; tables = t.tables })) (all ∙ append-nil cells),
+)
 
-follow-number : (k n n' m : ℕ) (g : Scope) (q : Point) (text own : Values) (rest : UnrolledSteps) (r does : Result State Abort) → n ≡ n' → Follow k n g m q text own rest r does → Follow k n' g m q text own rest r does
-follow-number k n n' m g q text own rest r does same h = subst (λ z. Follow k z g m q text own rest r does) same h
+follow-number : (k n n' m : ℕ) (g : Scope) (q : Point) (text own : Values) (rest : UnrolledSteps) (r : Result State Abort) (cells : List Cell) (does : Result State Abort) (writes : List Cell) → n ≡ n' → Follow k n g m q text own rest r cells does writes → Follow k n' g m q text own rest r cells does writes
+follow-number k n n' m g q text own rest r cells does writes same h = subst (λ z. Follow k z g m q text own rest r cells does writes) same h
 
 module _ (ts : List Table) where
   abbrev Same : Unrolling → List ℕ → Code → (Scope → Option Scope) → Type 0
   Same u xs code after = (k : ℕ) (f g : Scope) → RunsOn k xs → Before k f → after f ≡ Some g
       → Before (k + length xs) g × ((p : Point) (text own : Values) → Pictures f p text own → (tables : Tables) (n : ℕ) (rest : UnrolledSteps)
-      → Follow k (n + code.count) g p.next (u.after p) text own rest (code.run n (record { env = text; tables = tables })) (runs (u.steps p rest) n (record { env = own; tables = tables })))
+      → Follow k (n + code.count) g p.next (u.after p) text own rest (code.run n (record { env = text; tables = tables })) (code.cells n (record { env = text; tables = tables }))
+      (runs (u.steps p rest) n (record { env = own; tables = tables })) (cells_run (u.steps p rest) n (record { env = own; tables = tables })))
 
   abbrev SameStmt : Stmt → Type 0
   SameStmt s = Same (unrolling s) (stmt_variables s) (code s) ((check ts s).after)
@@ -378,11 +410,12 @@ module _ (ts : List Table) where
 
   same_all : (ss : List Stmt) → AllByRecursion SameStmt ss → (k : ℕ) (f g : Scope) → RunsOn k (defined_variables ss) → Before k f → in_order (map (check ts) ss) f ≡ Some g
       → (p : Point) (text own : Values) → Pictures f p text own → (tables : Tables) (n : ℕ) (rest : UnrolledSteps)
-      → Follow k (n + code_count ss) g p.next (all_after (map unrolling ss) p) text own rest (text_meaning ss n (record { env = text; tables = tables })) (runs (in_steps (map unrolling ss) p rest) n (record { env = own; tables = tables }))
+      → Follow k (n + code_count ss) g p.next (all_after (map unrolling ss) p) text own rest (text_meaning ss n (record { env = text; tables = tables })) (text_cells ss n (record { env = text; tables = tables }))
+      (runs (in_steps (map unrolling ss) p rest) n (record { env = own; tables = tables })) (cells_run (in_steps (map unrolling ss) p rest) n (record { env = own; tables = tables }))
   same_all [] all k f g run before ok p text own pic tables n rest =
       let same : f ≡ g = cc in
       let number : n ≡ n + 0 = omega arith in
-      (own, subst (λ (z : Scope). Pictures z p text own) same pic, (λ z lt. refl), (λ z lt. refl), ap (λ m. runs rest m (record { env = own; tables = tables })) number)
+      (own, subst (λ (z : Scope). Pictures z p text own) same pic, (λ z lt. refl), (λ z lt. refl), ap (λ m. runs rest m (record { env = own; tables = tables })) number, ap (λ m. cells_run rest m (record { env = own; tables = tables })) number)
   same_all (s ∷ ss) all k f g run before ok p text own pic tables n rest =
       let parts = runs_on-parts k (stmt_variables s) (defined_variables ss) run in
       let mid = then_is (map (check ts) ss) ((check ts s).after f) g ok in
@@ -390,9 +423,11 @@ module _ (ts : List Table) where
       let q = (unrolling s).after p in
       let number : n + (code s).count + code_count ss ≡ n + code_count (s ∷ ss) = omega arith in
       follow-then k (k + length (stmt_variables s)) (n + (code s).count) (n + code_count (s ∷ ss)) p.next q.next mid.0 g q (all_after (map unrolling ss) q) text own (in_steps (map unrolling ss) q rest) rest
-      ((code s).run n (record { env = text; tables = tables })) (runs (in_steps (map unrolling (s ∷ ss)) p rest) n (record { env = own; tables = tables })) (λ t. run_codes (map code ss) (n + (code s).count) t)
+      ((code s).run n (record { env = text; tables = tables })) ((code s).cells n (record { env = text; tables = tables }))
+      (runs (in_steps (map unrolling (s ∷ ss)) p rest) n (record { env = own; tables = tables })) (cells_run (in_steps (map unrolling (s ∷ ss)) p rest) n (record { env = own; tables = tables }))
+      (λ t. run_codes (map code ss) (n + (code s).count) t) (λ t. code_cells (map code ss) (n + (code s).count) t)
       (omega arith) (next-grows s p).0 (first.1 p text own pic tables n (in_steps (map unrolling ss) q rest))
-      (λ t now pic'. follow-number _ _ _ _ g _ _ _ rest _ _ number (same_all ss all.1 (k + length (stmt_variables s)) mid.0 g parts.1 first.0 mid.2 q t.env now pic' t.tables (n + (code s).count) rest))
+      (λ t now pic'. follow-number _ _ _ _ g _ _ _ rest _ _ _ _ number (same_all ss all.1 (k + length (stmt_variables s)) mid.0 g parts.1 first.0 mid.2 q t.env now pic' t.tables (n + (code s).count) rest))
 
   before-same : (k : ℕ) (f g : Scope) → f ≡ g → Before k f → Before (k + 0) g
   before-same k f g same before y h = omega (arith, before y (ap (λ (z : Scope). is_some (z y)) same ∙ h))
@@ -412,12 +447,19 @@ module _ (ts : List Table) where
   before-kind k (kind.Delete t key) f g single run before ok = before-same k f g (so_is _ f g ok).1 before
   before-kind k (kind.AbortIf e) f g single run before ok = before-same k f g (so_is _ f g ok).1 before
 
-  one-follow : (k n : ℕ) (f g : Scope) (p q : Point) (text own : Values) (pic : Pictures f p text own) (rest : UnrolledSteps) (r d : Result State Reason) → Followed k f g p text own pic q r d
-      → Follow k (n + 1) g p.next q text own rest (at_operation n r) (at_operation n d >>= λ t. runs rest (n + 1) t)
-  one-follow k n f g p q text own pic rest (Ok t) (Ok o) (tables, pic', a, b) = (o.env, pic', a, b, λ i. runs rest (n + 1) (record { env = o.env; tables = tables i }))
-  one-follow k n f g p q text own pic rest (Ok t) (Err b) h = absurd h
-  one-follow k n f g p q text own pic rest (Err a) (Ok o) h = absurd h
-  one-follow k n f g p q text own pic rest (Err a) (Err b) h = ap (λ z. Err (n, z)) h
+  one-follow : (k n : ℕ) (f g : Scope) (p q : Point) (text own : Values) (pic : Pictures f p text own) (rest : UnrolledSteps) (r d : Result State Reason) (cells writes : List Cell) → writes ≡ cells → Followed k f g p text own pic q r d
+      → Follow k (n + 1) g p.next q text own rest (at_operation n r) cells (at_operation n d >>= λ t. runs rest (n + 1) t) (if_well (λ t. writes ++ cells_run rest (n + 1) t) d)
+  one-follow k n f g p q text own pic rest (Ok t) (Ok o) cells writes same (tables, pic', a, b) = (
+    o.env,
+    pic',
+    a,
+    b,
+    (λ i. runs rest (n + 1) (record { env = o.env; tables = tables i })),
+    λ i. same i ++ cells_run rest (n + 1) (record { env = o.env; tables = tables i }),
+  )
+  one-follow k n f g p q text own pic rest (Ok t) (Err b) cells writes same h = absurd h
+  one-follow k n f g p q text own pic rest (Err a) (Ok o) cells writes same h = absurd h
+  one-follow k n f g p q text own pic rest (Err a) (Err b) cells writes same h = ap (λ z. Err (n, z)) h
 
   check-one : (s : Stmt) (kind : OpKind) → IsOne s kind → check ts s ≡ check_step ts (form_of Check kind)
   check-one s kind is = is Check (check_step ts)
@@ -427,7 +469,7 @@ module _ (ts : List Table) where
       (λ i. (sym (unrolling-one s kind single is) i, sym (variables-one s kind single is) i, sym (code-one s kind single is) i, sym (check-one s kind is) i))
       (λ k f g run before ok. (
         before-kind k kind f g single run before ok,
-        λ p text own pic tables n rest. one-follow k n f g p (with_defined (defined_variable kind) p) text own pic rest _ _ (follow-kind k f g p text own pic ts kind single run ok tables),
+        λ p text own pic tables n rest. one-follow k n f g p (with_defined (defined_variable kind) p) text own pic rest _ _ _ _ (cells-kind k f g p text own pic ts kind ok tables) (follow-kind k f g p text own pic ts kind single run ok tables),
       ))
 
   -- ---- conditionals
@@ -497,9 +539,16 @@ module _ (ts : List Table) where
       own-kept : (m : ℕ) (o : Values) → p.next ≤ m → Keeps m own' o → Keeps p.next own o
       own-kept m o up h z lt = h z (omega (arith, lt, up)) ∙ keeps-insert p.next p.next own v (omega arith) z lt
 
-      after-first : Follow k number g p.next end text own rest (text_meaning first (n + 1) (record { env = text'; tables = tables })) (runs a (n + 1) (record { env = own'; tables = tables }) >>= λ t. runs rest number t)
-      after-first = follow-end k (n + 1 + code_count first) number p.next g end text own rest _ _
-          (follow-from k (k + 1) (n + 1 + code_count first) p.next point.next ga g between end text text' own own' End _ _
+      abbrev begins : State
+      begins = record { env = text'; tables = tables }
+
+      abbrev own_begins : State
+      own_begins = record { env = own'; tables = tables }
+
+      after-first : Follow k number g p.next end text own rest (text_meaning first (n + 1) begins) (text_cells first (n + 1) begins)
+          (runs a (n + 1) own_begins >>= λ t. runs rest number t) (if_well (λ t. cells_run a (n + 1) own_begins ++ cells_run rest number t) (runs a (n + 1) own_begins))
+      after-first = follow-end k (n + 1 + code_count first) number p.next g end text own rest _ _ _ _
+          (follow-from k (k + 1) (n + 1 + code_count first) p.next point.next ga g between end text text' own own' End _ _ _ _
           (same_all first all (k + 1) inner ga run_first visible ok_first point text' own' begun tables (n + 1) End)
           (λ t now pic' tk ok. (
             pictures-later inner g point end text' own' t.env now (k + 1) begun less (λ y h. visible y (less y h)) (λ y lt. names-b y lt ∙ names-a y lt) tk ok (omega (arith, up-a, up-b)),
@@ -507,10 +556,11 @@ module _ (ts : List Table) where
             own-kept point.next now (omega arith) ok,
           )))
 
-      after-second : Follow k number g p.next end text own rest (text_meaning second (n + 1 + code_count first) (record { env = text'; tables = tables })) (runs b (n + 1 + step_count a) (record { env = own'; tables = tables }) >>= λ t. runs rest number t)
-      after-second = follow-end k (n + 1 + code_count first + code_count second) number p.next g end text own rest _ _
-          (subst (λ c. Follow k (n + 1 + code_count first + code_count second) g p.next end text own End (text_meaning second (n + 1 + code_count first) (record { env = text'; tables = tables })) (runs b (n + 1 + c) (record { env = own'; tables = tables }))) (sym count-a)
-          (follow-from k (k + 1 + length (defined_variables first)) (n + 1 + code_count first + code_count second) p.next between.next gb g end end text text' own own' End _ _
+      after-second : Follow k number g p.next end text own rest (text_meaning second (n + 1 + code_count first) begins) (text_cells second (n + 1 + code_count first) begins)
+          (runs b (n + 1 + step_count a) own_begins >>= λ t. runs rest number t) (if_well (λ t. cells_run b (n + 1 + step_count a) own_begins ++ cells_run rest number t) (runs b (n + 1 + step_count a) own_begins))
+      after-second = follow-end k (n + 1 + code_count first + code_count second) number p.next g end text own rest _ _ _ _
+          (subst (λ c. Follow k (n + 1 + code_count first + code_count second) g p.next end text own End (text_meaning second (n + 1 + code_count first) begins) (text_cells second (n + 1 + code_count first) begins) (runs b (n + 1 + c) own_begins) (cells_run b (n + 1 + c) own_begins)) (sym count-a)
+          (follow-from k (k + 1 + length (defined_variables first)) (n + 1 + code_count first + code_count second) p.next between.next gb g end end text text' own own' End _ _ _ _
           (same_all second others (k + 1 + length (defined_variables first)) inner gb run_second (λ y h. omega (arith, visible y h)) ok_second between text' own' begun-b tables (n + 1 + code_count first) End)
           (λ t now pic' tk ok. (
             pictures-later inner g between end text' own' t.env now (k + 1) begun-b less (λ y h. visible y (less y h)) names-b (λ z lt. tk z (omega (arith, lt))) ok up-b,
@@ -518,27 +568,37 @@ module _ (ts : List Table) where
             own-kept between.next now (omega (arith, up-a)) ok,
           ))))
 
-    after-branch : (v : Value) → Follow k number g p.next end text own rest (branch v (text_meaning first (n + 1)) (text_meaning second (n + 1 + code_count first)) (define x v (record { env = text; tables = tables })))
-        (branch v (runs a (n + 1)) (runs b (n + 1 + step_count a)) (define p.next v (record { env = own; tables = tables })) >>= λ t. runs rest number t)
+    -- what one of the blocks does, as text and as steps, and which cells it writes
+    abbrev text_does : Value → Result State Abort
+    text_does v = branch v (text_meaning first (n + 1)) (text_meaning second (n + 1 + code_count first)) (define x v (record { env = text; tables = tables }))
+
+    abbrev text_writes : Value → List Cell
+    text_writes v = branch v (text_cells first (n + 1)) (text_cells second (n + 1 + code_count first)) (define x v (record { env = text; tables = tables }))
+
+    abbrev own_does : Value → Result State Abort
+    own_does v = branch v (runs a (n + 1)) (runs b (n + 1 + step_count a)) (define p.next v (record { env = own; tables = tables }))
+
+    abbrev own_writes : Value → List Cell
+    own_writes v = branch v (cells_run a (n + 1) (define p.next v (record { env = own; tables = tables }))) (cells_run b (n + 1 + step_count a) (define p.next v (record { env = own; tables = tables })))
+
+    after-branch : (v : Value) → Follow k number g p.next end text own rest (text_does v) (text_writes v) (own_does v >>= λ t. runs rest number t) (if_well (λ t. own_writes v ++ cells_run rest number t) (own_does v))
     after-branch (Truth true) = after-first (Truth true)
     after-branch (Truth false) = after-second (Truth false)
     after-branch (Int m) = after-second (Int m)
     after-branch (Text l) = after-second (Text l)
 
-    after-test : (r : Result Value Trap) → Follow k number g p.next end text own rest
-        (at_operation n (or_abort r) >>= λ v. branch v (text_meaning first (n + 1)) (text_meaning second (n + 1 + code_count first)) (define x v (record { env = text; tables = tables })))
-        (at_operation n (or_abort r) >>= λ v. branch v (runs a (n + 1)) (runs b (n + 1 + step_count a)) (define p.next v (record { env = own; tables = tables })) >>= λ t. runs rest number t)
+    after-test : (r : Result Value Trap) → Follow k number g p.next end text own rest (at_operation n (or_abort r) >>= text_does) (if_well text_writes r)
+        (at_operation n (or_abort r) >>= λ v. own_does v >>= λ t. runs rest number t) (if_well (λ v. if_well (λ t. own_writes v ++ cells_run rest number t) (own_does v)) r)
     after-test (Ok v) = after-branch v
     after-test (Err trap) = refl
 
-    after-conditional : Follow k (n + (1 + (code_count first + code_count second))) g p.next end text own rest
-        (at_operation n (or_abort (value e text)) >>= λ v. branch v (text_meaning first (n + 1)) (text_meaning second (n + 1 + code_count first)) (define x v (record { env = text; tables = tables })))
-        (runs (Branch p.next (renamed p.names e) a b rest) n (record { env = own; tables = tables }))
+    after-conditional : Follow k (n + (1 + (code_count first + code_count second))) g p.next end text own rest (at_operation n (or_abort (value e text)) >>= text_does) (if_well text_writes (value e text))
+        (runs (Branch p.next (renamed p.names e) a b rest) n (record { env = own; tables = tables })) (cells_run (Branch p.next (renamed p.names e) a b rest) n (record { env = own; tables = tables }))
     after-conditional =
         let total : number ≡ n + (1 + (code_count first + code_count second)) = omega (arith, count-a, count-b) in
-        follow-number k number (n + (1 + (code_count first + code_count second))) p.next g end text own rest _ _ total
-        (subst (λ r. Follow k number g p.next end text own rest (at_operation n (or_abort (value e text)) >>= λ v. branch v (text_meaning first (n + 1)) (text_meaning second (n + 1 + code_count first)) (define x v (record { env = text; tables = tables })))
-        (at_operation n (or_abort r) >>= λ v. branch v (runs a (n + 1)) (runs b (n + 1 + step_count a)) (define p.next v (record { env = own; tables = tables })) >>= λ t. runs rest number t))
+        follow-number k number (n + (1 + (code_count first + code_count second))) p.next g end text own rest _ _ _ _ total
+        (subst (λ r. Follow k number g p.next end text own rest (at_operation n (or_abort (value e text)) >>= text_does) (if_well text_writes (value e text))
+        (at_operation n (or_abort r) >>= λ v. own_does v >>= λ t. runs rest number t) (if_well (λ v. if_well (λ t. own_writes v ++ cells_run rest number t) (own_does v)) r))
         (sym (bool-value f p text own pic e typed)) (after-test (value e text)))
 
   same-conditional : (s : Stmt) (x : ℕ) (e : Expr) (first second : List Stmt) → IsConditional s x e first second → AllByRecursion SameStmt first → AllByRecursion SameStmt second → SameStmt s
@@ -567,10 +627,11 @@ module _ (ts : List Table) where
     turn-kept text t v h z lt = h z (omega (arith, lt)) ∙ keeps-insert k x text v (omega (arith, at)) z lt
 
     same_turns : (is : List ℤ) (p : Point) (text own : Values) → Pictures f p text own → (tables : Tables) (n : ℕ) (rest : UnrolledSteps)
-        → Follow k (n + length is * code_count body) f p.next (after_turns x (map unrolling body) is p) text own rest (run_turns x (map code body) is n (record { env = text; tables = tables })) (runs (in_turns x (map unrolling body) is p rest) n (record { env = own; tables = tables }))
+        → Follow k (n + length is * code_count body) f p.next (after_turns x (map unrolling body) is p) text own rest (run_turns x (map code body) is n (record { env = text; tables = tables })) (turn_cells x (map code body) is n (record { env = text; tables = tables }))
+        (runs (in_turns x (map unrolling body) is p rest) n (record { env = own; tables = tables })) (cells_run (in_turns x (map unrolling body) is p rest) n (record { env = own; tables = tables }))
     same_turns [] p text own pic tables n rest =
         let number : n ≡ n + 0 * code_count body = omega arith in
-        (own, pic, (λ z lt. refl), (λ z lt. refl), ap (λ m. runs rest m (record { env = own; tables = tables })) number)
+        (own, pic, (λ z lt. refl), (λ z lt. refl), ap (λ m. runs rest m (record { env = own; tables = tables })) number, ap (λ m. cells_run rest m (record { env = own; tables = tables })) number)
     same_turns (i ∷ is) p text own pic tables n rest =
         let turn = with_turn x i p in
         let text' = insert text x (Int i) in
@@ -579,16 +640,17 @@ module _ (ts : List Table) where
         let more = in_turns x (map unrolling body) is q rest in
         let number : n + c + length is * c ≡ n + length (i ∷ is) * c = times n (length is) c in
         let last = after_turns x (map unrolling body) is q in
-        follow-then k k (n + c) (n + length (i ∷ is) * c) p.next q.next f f q last text own more rest (text_meaning body n (record { env = text'; tables = tables })) (runs (in_steps (map unrolling body) turn more) n (record { env = own; tables = tables }))
-        (λ t. run_turns x (map code body) is (n + c) t) (omega arith) (all_next-grows body turn).0
-        (follow-from k (k + 1) (n + c) p.next p.next g f q q text text' own own more _ _
+        follow-then k k (n + c) (n + length (i ∷ is) * c) p.next q.next f f q last text own more rest (text_meaning body n (record { env = text'; tables = tables })) (text_cells body n (record { env = text'; tables = tables }))
+        (runs (in_steps (map unrolling body) turn more) n (record { env = own; tables = tables })) (cells_run (in_steps (map unrolling body) turn more) n (record { env = own; tables = tables }))
+        (λ t. run_turns x (map code body) is (n + c) t) (λ t. turn_cells x (map code body) is (n + c) t) (omega arith) (all_next-grows body turn).0
+        (follow-from k (k + 1) (n + c) p.next p.next g f q q text text' own own more _ _ _ _
         (same_all body all (k + 1) (with_var f x IntTy) g run (before-var k x f IntTy at before) ok turn text' own (pictures-turn f p text own x i pic) tables n more)
         (λ t now pic' tk okp. (
           pictures-later f f p q text own t.env now k pic (λ y h. h) before (turn_names-kept body x k at run i p) (turn-kept text t.env (Int i) tk) okp (all_next-grows body turn).0,
           turn-kept text t.env (Int i) tk,
           okp,
         )))
-        (λ t now pic'. follow-number k _ _ q.next f last t.env now rest _ _ number (same_turns is q t.env now pic' t.tables (n + c) rest))
+        (λ t now pic'. follow-number k _ _ q.next f last t.env now rest _ _ _ _ number (same_turns is q t.env now pic' t.tables (n + c) rest))
       where
         times : (n l c : ℕ) → n + c + l * c ≡ n + suc l * c
         times n l c = omega arith
@@ -615,8 +677,8 @@ module _ (ts : List Table) where
             let q = after_turns x (map unrolling body) (turn_numbers from to) p in
             let pic_outer : Pictures outer p text own = pictures-later f outer p p text own text own k pic less visible (λ y lt. refl) (λ z lt. refl) (λ z lt. refl) (omega arith) in
             let total : n + length (turn_numbers from to) * code_count body ≡ n + turns from to * code_count body = omega (arith, count) in
-            follow-number k _ _ p.next g q text own rest _ _ total
-            (follow-from k k _ p.next p.next outer g q q text text own own rest _ _
+            follow-number k _ _ p.next g q text own rest _ _ _ _ total
+            (follow-from k k _ p.next p.next outer g q q text text own own rest _ _ _ _
             (same_turns x k run.0 body all run.1 outer found.0 visible found.1 (turn_numbers from to) p text own pic_outer tables n rest)
             (λ t now pic' tk okp. (pictures-later outer g q q t.env now t.env now k pic' shown (λ y h. visible y (shown y h)) (λ y lt. refl) (λ z lt. refl) (λ z lt. refl) (omega arith), tk, okp))),
       ))
@@ -626,13 +688,15 @@ module _ (ts : List Table) where
 
 -- ---- procedures
 
-same-tables : (r does : Result State Abort) (k n m : ℕ) (g : Scope) (q : Point) (text own : Values) → Follow k n g m q text own End r does → (r >>= λ s. Ok s.tables) ≡ (does >>= λ s. Ok s.tables)
-same-tables (Ok t) does k n m g q text own (now, pic, a, b, is) = sym (ap (λ (r : Result State Abort). r >>= λ s. Ok s.tables) is)
-same-tables (Err abort) does k n m g q text own h = sym (ap (λ (r : Result State Abort). r >>= λ s. Ok s.tables) h)
+same-end : (r : Result State Abort) (cells : List Cell) (does : Result State Abort) (writes : List Cell) (k n m : ℕ) (g : Scope) (q : Point) (text own : Values) → Follow k n g m q text own End r cells does writes
+    → ((r >>= λ s. Ok s.tables) ≡ (does >>= λ s. Ok s.tables)) × OnOk r (writes ≡ cells)
+same-end (Ok t) cells does writes k n m g q text own (now, pic, a, b, is, all) = (sym (ap (λ (r : Result State Abort). r >>= λ s. Ok s.tables) is), all ∙ append-nil cells)
+same-end (Err abort) cells does writes k n m g q text own h = (sym (ap (λ (r : Result State Abort). r >>= λ s. Ok s.tables) h), tt)
 
--- a call gives the same tables, or aborts alike, whatever values other variables have where it begins
+-- a call gives the same tables and writes the same cells, or aborts alike, whatever values other variables have where it begins
 pub same-called : (ts : List Table) (proc : Proc) → IsProc ts proc → (args : List Value) → FitParams proc.params args → (old : Values) (tables : Tables)
-    → (text_meaning proc.body 0 (record { env = with_values 0 args old; tables = tables }) >>= λ s. Ok s.tables) ≡ (meaning proc (opening args tables) >>= λ s. Ok s.tables)
+    → ((text_meaning proc.body 0 (record { env = with_values 0 args old; tables = tables }) >>= λ s. Ok s.tables) ≡ (meaning proc (opening args tables) >>= λ s. Ok s.tables))
+    × OnOk (text_meaning proc.body 0 (record { env = with_values 0 args old; tables = tables })) (cells_run (unrolled proc) 0 (opening args tables) ≡ text_cells proc.body 0 (record { env = with_values 0 args old; tables = tables }))
 same-called ts proc is args fit old tables =
     let start = opening args tables in
     let text = with_values 0 args old in
@@ -641,7 +705,7 @@ same-called ts proc is args fit old tables =
     let wide : length (types proc.params) ≡ length proc.params = length-map proc.params (λ column. column.ty) in
     let before : Before (length proc.params) f = λ y h. visible (types proc.params) (length proc.params) wide y (slice_get (types proc.params) y) refl h in
     let pic : Pictures f (beginning proc) text start.env = record { values = λ y h. value-same text start.env y (argument y (before y h)); steady = λ y h. steady-var (length proc.params) y (before y h) } in
-    same-tables (text_meaning proc.body 0 (record { env = text; tables = tables })) (meaning proc start) (length proc.params) (0 + code_count proc.body) (length proc.params) end.0 (all_after (map unrolling proc.body) (beginning proc)) text start.env
+    same-end (text_meaning proc.body 0 (record { env = text; tables = tables })) (text_cells proc.body 0 (record { env = text; tables = tables })) (meaning proc start) (cells_run (unrolled proc) 0 start) (length proc.params) (0 + code_count proc.body) (length proc.params) end.0 (all_after (map unrolling proc.body) (beginning proc)) text start.env
     (same_all ts proc.body (all_same ts proc.body) (length proc.params) f end.0 (runs_on-proc ts proc is) before end.1 (beginning proc) text start.env pic tables 0 End)
   where
     visible : (tys : List Ty) (n : ℕ) → length tys ≡ n → (y : ℕ) (o : Option Ty) → slice_get tys y ≡ o → is_some o ≡ true → y < n

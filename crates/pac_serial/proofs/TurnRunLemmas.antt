@@ -1,12 +1,14 @@
 -- The turns of a loop run one after another.
-use Rattle.std.proofs.Common.{◌≡◌, ◌≤◌, ℕ, suc, ◌+◌, ◌*◌, ◌==◌, ◌||◌, ℤ, pos, ◌+ℤ◌, ◌-ℤ◌, ◌<ℤ◌, ◌≤ℤ◌, Bool, true, false, List, map, Some, None, Result, Ok, Err, IsSome, refl, sym, ap, ◌∙◌, arith}
+use Rattle.std.proofs.Common.{◌≡◌, ◌≤◌, ℕ, suc, ◌+◌, ◌*◌, ◌==◌, ◌||◌, ℤ, pos, ◌+ℤ◌, ◌-ℤ◌, ◌<ℤ◌, ◌≤ℤ◌, Bool, true, false, List, ◌++◌, map, Some, None, Result, Ok, Err, IsSome, refl, sym, ap, ◌∙◌, arith}
 use Rattle.std.specs.Prelude.{if◌then◌else◌}
+use Rattle.std.specs.FinMap.{contains_key}
 use Rattle.std.proofs.lemmas.Int.{ints}
 use Rattle.pac_value.specs.declared.values.Ty.{Ty}
 use Rattle.pac_value.specs.declared.values.Ty.TheVariants.{Int as IntTy}
 use Rattle.pac_value.specs.declared.values.Value.TheVariants.{Int}
 use Rattle.pac_value.specs.Expressions.{Values, types_of, ◌>>=◌}
 use Rattle.pac_value.specs.Scopes.{Scope, with_var}
+use Rattle.pac_value.specs.State.{Cell}
 use Rattle.pac_ops.specs.Operations.{State, define}
 use Rattle.pac_types.specs.declared.statement.Stmt.{Stmt}
 use Rattle.pac_types.specs.declared.table.Table.{Table}
@@ -19,7 +21,10 @@ use Rattle.pac_types.proofs.WellFormedLemmas.{scope_after_all-within}
 use Rattle.pac_serial.specs.declared.operation.Halt.{Halt}
 use Rattle.pac_serial.specs.declared.operation.Halt.TheVariants.{Abort as AbortAt, NoMemory}
 use Rattle.pac_serial.specs.Outcomes.{RunsFrom, IsHaltWithin, moved, KeepsTypes}
-use Rattle.pac_serial.specs.TextMeaning.{code, code_count, run_turns, text_meaning}
+use Rattle.pac_serial.specs.TextMeaning.{code, code_count, run_turns, turn_cells, text_meaning, text_cells}
+use Rattle.pac_serial.specs.Writes.{is_among, if_well}
+use Rattle.pac_serial.specs.WriteSets.{Changes, ChangesAt}
+use Rattle.pac_serial.proofs.WritesLemmas.{writes-next}
 use Rattle.pac_serial.proofs.ExecLemmas.{some-within}
 
 -- where a turn begins, what was visible before the loop has its type, but for what the block defines
@@ -65,6 +70,24 @@ module _ (x : ℕ) (body : List Stmt) (from n to : ℤ) (low : from ≤ℤ n) (b
   pub turn-aborts : (m : ℕ) (s begun : State) (abort : Abort) → begun ≡ define x (Int n) s → text_meaning body (m + before) begun ≡ Err abort → run_turns x (map code body) (turn_numbers n to) (m + before) s ≡ Err abort
   turn-aborts m s begun abort is h =
       run-more (m + before) s ∙ ap (λ (r : Result State Abort). r >>= λ u. run_turns x (map code body) (turn_numbers (n +ℤ pos 1) to) (m + before + code_count body) u) (ap (text_meaning body (m + before)) (sym is) ∙ h)
+
+  cells-more : (m : ℕ) (s : State) → turn_cells x (map code body) (turn_numbers n to) m s ≡ if_well (λ t. text_cells body m (define x (Int n) s) ++ turn_cells x (map code body) (turn_numbers (n +ℤ pos 1) to) (m + code_count body) t) (text_meaning body m (define x (Int n) s))
+  cells-more m s = ap (λ is. turn_cells x (map code body) is m s) (numbers-more n to below)
+
+  -- the cells of the turn and of those after it
+  pub turn-writes : (m : ℕ) (s begun t : State) (mid new : Changes) → begun ≡ define x (Int n) s → text_meaning body (m + before) begun ≡ Ok t → ChangesAt (text_cells body (m + before) begun) mid new → (q : Cell)
+      → (is_among q (turn_cells x (map code body) (turn_numbers (n +ℤ pos 1) to) (m + natural ((n +ℤ pos 1) -ℤ from) * code_count body) t) || contains_key new q)
+      ≡ (is_among q (turn_cells x (map code body) (turn_numbers n to) (m + before) s) || contains_key mid q)
+  turn-writes m s begun t mid new is h writes q =
+      let all : m + natural ((n +ℤ pos 1) -ℤ from) * code_count body ≡ m + before + code_count body = ap (λ k. m + k * code_count body) (before-next from n low) ∙ times (natural (n -ℤ from)) (code_count body) in
+      ap (λ k. is_among q (turn_cells x (map code body) (turn_numbers (n +ℤ pos 1) to) k t) || contains_key new q) all
+      ∙ writes-next q (text_cells body (m + before) begun) (turn_cells x (map code body) (turn_numbers (n +ℤ pos 1) to) (m + before + code_count body) t) mid new writes
+      ∙ ap (λ (z : State). is_among q (text_cells body (m + before) z ++ turn_cells x (map code body) (turn_numbers (n +ℤ pos 1) to) (m + before + code_count body) t) || contains_key mid q) is
+      ∙ sym (ap (λ (r : Result State Abort). is_among q (if_well (λ u. text_cells body (m + before) (define x (Int n) s) ++ turn_cells x (map code body) (turn_numbers (n +ℤ pos 1) to) (m + before + code_count body) u) r) || contains_key mid q) (ap (text_meaning body (m + before)) (sym is) ∙ h))
+      ∙ sym (ap (λ (cs : List Cell). is_among q cs || contains_key mid q) (cells-more (m + before) s))
+    where
+      times : (k c : ℕ) → m + suc k * c ≡ m + k * c + c
+      times k c = omega arith
 
   -- the operations of the turn are among all
   pub turn-within : before + code_count body ≤ turns from to * code_count body

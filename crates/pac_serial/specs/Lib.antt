@@ -1,3 +1,4 @@
+pub mod Writes
 pub mod WriteSets
 pub mod Commits
 pub mod Outcomes

@@ -47,6 +47,13 @@ ExecutesAll procs first txns old new (Err NoMemoryForAll) = (done : ℕ) × (don
 
 -- ---- inside a transaction
 
+-- the tables with the changes are those that a transaction means; or it aborts as it means to, or finds no memory
+abbrev pub RunsAsMeant : {A : Type 0} → Result Tables AnAbort → Tables → Result A ExecError → Type 0
+RunsAsMeant meant seen (Ok x) = meant ≡ Ok seen
+RunsAsMeant meant seen (Err (AbortAt op reason)) = meant ≡ Err (op, reason)
+RunsAsMeant meant seen (Err (Full table)) = ⊥
+RunsAsMeant meant seen (Err NoMemoryAtAll) = Unit {0}
+
 -- what refuses a transaction whose operations halt
 abbrev pub error_of : Halt → ExecError
 error_of (Abort op reason) = AbortAt op reason

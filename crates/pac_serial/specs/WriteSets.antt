@@ -1,8 +1,10 @@
 -- The changes of a transaction that has not ended, and the tables as it sees them.
-use Rattle.std.specs.Prelude.{◌≡◌, ◌<◌, ◌+◌, ◌==◌, ◌&&◌, not, cond, ℕ, List, [], ◌∷◌, is_some, Some}
-use Rattle.std.specs.FinMap.{FinMap, get, find, entries}
+use Rattle.std.specs.Prelude.{◌≡◌, ◌<◌, ◌+◌, ◌==◌, ◌&&◌, ◌||◌, not, cond, ℕ, List, [], ◌∷◌, is_some, Some}
+use Rattle.std.specs.FinMap.{FinMap, get, contains_key, find, entries}
 use Rattle.pac_value.specs.State.{Cell, cell_cmp, Tables, with_row}
+use Rattle.pac_ops.specs.declared.transaction.Change.{Change as AnImage}
 use Rattle.pac_serial.specs.declared.pending.Pending.{Pending}
+use Rattle.pac_serial.specs.Writes.{is_among, shown}
 
 -- changes, by their cells
 abbrev pub Changes : Type 0
@@ -32,6 +34,14 @@ AreUnmade number changes = (cell : Cell) (pending : Pending) → get changes cel
 -- the same of changes in a list
 abbrev pub AreAllUnmade : ℕ → List Change → Type 0
 AreAllUnmade number changes = (cell : Cell) (pending : Pending) → find cell_cmp cell changes ≡ Some pending → IsUnmade number cell pending
+
+-- the cells that are changed are those that were, and these
+abbrev pub ChangesAt : List Cell → Changes → Changes → Type 0
+ChangesAt cells old new = (cell : Cell) → contains_key new cell ≡ (is_among cell cells || contains_key old cell)
+
+-- the after-image that a change leaves
+abbrev pub image_left : Change → AnImage
+image_left change = shown change.0 change.1.row
 
 -- a row more in a table, where none stands at the cell, and one less, where one stands
 abbrev pub gains : Tables → ℕ → Change → ℕ

@@ -1,12 +1,15 @@
 // Executes transactions.
-ghost use Rattle.std.specs.Prelude.{◌≡◌, Ok, OnOk, OnErr, map, slice_get};
+ghost use Rattle.std.specs.Prelude.{◌≡◌, ◌∷◌, ◌≤◌, [], Ok, OnOk, OnErr, IfOk, length, map, slice_get};
+ghost use Rattle.std.specs.FinMap.{empty};
+ghost use Rattle.pac_ops.specs.declared.limits.TheConstants.{MAX_OPS};
 ghost use Rattle.pac_ops.specs.Shapes.{ChangeFits, RecordsFit};
 ghost use Rattle.pac_ops.specs.Transactions.{with_change, with_changes};
 ghost use Rattle.pac_types.specs.Execution.{called_at, txn_meaning};
 ghost use Rattle.pac_types.specs.OperationLimits.{HasFewOperations};
 ghost use Rattle.pac_types.specs.Fits.{shape, FitsCatalogue, FitsCall, TxnFits};
-ghost use Rattle.pac_serial.specs.WriteSets.{as_changed, AreUnmade};
-ghost use Rattle.pac_serial.specs.Outcomes.{Executes, limited};
+ghost use Rattle.pac_serial.specs.Writes.{image_cell, cells_called, cells_written, after_images};
+ghost use Rattle.pac_serial.specs.WriteSets.{as_changed, AreUnmade, ChangesAt};
+ghost use Rattle.pac_serial.specs.Outcomes.{Executes, RunsAsMeant, limited};
 ghost use Rattle.pac_serial.specs.Transactions.{RunsOver};
 
 use crate::limit::over_limit;
@@ -77,8 +80,29 @@ fn finish<R: Rows>(limit: Option<u64>, rows: &mut R, txn: &mut RunningTxn) -> Re
     Ok(txn.write_set.commit(rows)?)
 }
 
+// Runs a call in a transaction that is made already. The rows stay as they are.
+fn run_call<R: Rows>(
+    cat: &Catalogue,
+    proc: u16,
+    args: &[Value],
+    rows: &R,
+    txn: &mut RunningTxn,
+) -> Result<(), ExecError>
+    requires few { HasFewOperations cat.now.procs }
+    requires call { FitsCall cat.now.procs proc args.now }
+    requires fits { FitsCatalogue cat.now (R.tables rows.now) (R.held rows.now) }
+    ensures does { RunsAsMeant (called_at (slice_get cat.now.procs proc) args.now (R.held rows.now)) (as_changed (R.held rows.now) txn.new.write_set) result }
+    ensures over { OnOk result (RunsOver cat.now.tables (R.tables rows.now) (R.held rows.now) txn.new.write_set) }
+    ensures writes { OnOk result (ChangesAt (cells_called (slice_get cat.now.procs proc) args.now (R.held rows.now)) empty txn.new.write_set) }
+{
+    let proc = &cat.procs()[usize::from(proc)];
+    txn.begin(args)?;
+    exec_block(cat.tables(), rows, proc.body.as_slice(), txn)?;
+    Ok(())
+}
+
 // Executes a call in a transaction that is made already.
-pub(crate) fn exec_call<R: Rows>(
+fn exec_call<R: Rows>(
     cat: &Catalogue,
     proc: u16,
     args: &[Value],
@@ -93,9 +117,7 @@ pub(crate) fn exec_call<R: Rows>(
     ensures fits { FitsCatalogue cat.now (R.tables rows.new) (R.held rows.new) }
     ensures tables { R.tables rows.new ≡ R.tables rows.old }
 {
-    let proc = &cat.procs()[usize::from(proc)];
-    txn.begin(args)?;
-    exec_block(cat.tables(), rows, proc.body.as_slice(), txn)?;
+    run_call(cat, proc, args, rows, txn)?;
     finish(limit, rows, txn)
 }
 
@@ -110,6 +132,7 @@ fn make<R: Rows>(
     requires over { RunsOver tables.now (R.tables rows.now) (R.held rows.now) txn.old.write_set }
     ensures made { OnOk result (as_changed (R.held rows.now) txn.new.write_set ≡ with_change (as_changed (R.held rows.now) txn.old.write_set) change.now) }
     ensures over { OnOk result (RunsOver tables.now (R.tables rows.now) (R.held rows.now) txn.new.write_set) }
+    ensures writes { OnOk result (ChangesAt (image_cell change.now ∷ []) txn.old.write_set txn.new.write_set) }
 {
     match change {
         Change::Put { table, key, row } => {
@@ -120,8 +143,31 @@ fn make<R: Rows>(
     }
 }
 
-// Makes the changes of records in a transaction that is made already.
-pub(crate) fn exec_records<R: Rows>(
+// Makes the changes of records in a transaction that is made already. The rows stay as they are.
+fn run_records<R: Rows>(
+    cat: &Catalogue,
+    records: &Records,
+    rows: &R,
+    txn: &mut RunningTxn,
+) -> Result<(), ExecError>
+    requires records { RecordsFit (map shape cat.now.tables) records.now }
+    requires fits { FitsCatalogue cat.now (R.tables rows.now) (R.held rows.now) }
+    ensures does { RunsAsMeant (Ok (with_changes (R.held rows.now) records.now)) (as_changed (R.held rows.now) txn.new.write_set) result }
+    ensures over { OnOk result (RunsOver cat.now.tables (R.tables rows.now) (R.held rows.now) txn.new.write_set) }
+    ensures writes { OnOk result (ChangesAt (map image_cell records.now) empty txn.new.write_set) }
+    ensures few { length records.now ≤ MAX_OPS }
+{
+    let tables = cat.tables();
+    let changes = records.items();
+    txn.begin(&[])?;
+    for change in changes {
+        make(tables, rows, change, txn)?;
+    }
+    Ok(())
+}
+
+// Makes the changes of records, unless some table would be over the limit, in a transaction that is made already.
+fn exec_records<R: Rows>(
     cat: &Catalogue,
     records: &Records,
     limit: Option<u64>,
@@ -134,12 +180,7 @@ pub(crate) fn exec_records<R: Rows>(
     ensures fits { FitsCatalogue cat.now (R.tables rows.new) (R.held rows.new) }
     ensures tables { R.tables rows.new ≡ R.tables rows.old }
 {
-    let tables = cat.tables();
-    let changes = records.items();
-    txn.begin(&[])?;
-    for change in changes {
-        make(tables, rows, change, txn)?;
-    }
+    run_records(cat, records, rows, txn)?;
     finish(limit, rows, txn)
 }
 
@@ -223,4 +264,56 @@ pub fn exec_txn<R: Rows>(
         Txn::Call(call) => exec_call(cat, call.proc, call.args.items(), limit, rows, running),
         Txn::AdHoc { records } => exec_records(cat, records, limit, rows, running),
     }
+}
+
+// Runs a transaction. The rows stay as they are.
+fn run_txn<R: Rows>(
+    cat: &Catalogue,
+    txn: &Txn,
+    rows: &R,
+    running: &mut RunningTxn,
+) -> Result<(), ExecError>
+    requires few { HasFewOperations cat.now.procs }
+    requires txn { TxnFits cat.now txn.now }
+    requires fits { FitsCatalogue cat.now (R.tables rows.now) (R.held rows.now) }
+    ensures does { RunsAsMeant (txn_meaning cat.now.procs txn.now (R.held rows.now)) (as_changed (R.held rows.now) running.new.write_set) result }
+    ensures over { OnOk result (RunsOver cat.now.tables (R.tables rows.now) (R.held rows.now) running.new.write_set) }
+    ensures writes { OnOk result (ChangesAt (cells_written cat.now.procs txn.now (R.held rows.now)) empty running.new.write_set) }
+    ensures few { OnOk result (length (cells_written cat.now.procs txn.now (R.held rows.now)) ≤ MAX_OPS) }
+{
+    match txn {
+        Txn::Call(call) => run_call(cat, call.proc, call.args.items(), rows, running),
+        Txn::AdHoc { records } => run_records(cat, records, rows, running),
+    }
+}
+
+/// Executes a transaction as [`exec_txn`] does, and lists its after-images: the cells that its executed operations or its
+/// records write, each once, ascending, each with the row that it leaves there, or with none, where it deletes. It costs what
+/// [`exec_txn`] costs, and a copy of each of these rows.
+///
+/// # Errors
+///
+/// As of [`exec_txn`]. Whatever refuses it, the tables are as they were, and nothing is listed.
+pub fn exec_listed<R: Rows>(
+    cat: &Catalogue,
+    txn: &Txn,
+    limit: Option<u64>,
+    rows: &mut R,
+    running: &mut RunningTxn,
+) -> Result<Vec<Change>, ExecError>
+    requires few { HasFewOperations cat.now.procs }
+    requires txn { TxnFits cat.now txn.now }
+    requires fits { FitsCatalogue cat.now (R.tables rows.old) (R.held rows.old) }
+    ensures does { Executes (limited limit (R.tables rows.old) (txn_meaning cat.now.procs txn.now (R.held rows.old))) (R.held rows.old) (R.held rows.new) result }
+    // The list is that of its after-images, which fit the catalogue.
+    ensures listed { IfOk result (λ images. images.items ≡ after_images cat.now.procs txn.now (R.held rows.old) (R.held rows.new)) }
+    ensures records { IfOk result (λ images. RecordsFit (map shape cat.now.tables) images.items) }
+    ensures few { IfOk result (λ images. length images.items ≤ MAX_OPS) }
+    ensures fits { FitsCatalogue cat.now (R.tables rows.new) (R.held rows.new) }
+    ensures tables { R.tables rows.new ≡ R.tables rows.old }
+{
+    run_txn(cat, txn, rows, running)?;
+    let images = running.write_set.images(running.alloc)?;
+    finish(limit, rows, running)?;
+    Ok(images)
 }

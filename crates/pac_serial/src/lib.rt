@@ -3,7 +3,7 @@
 //!
 //! - [`exec`]: executes a call of a procedure. [`exec_adhoc`]: makes the changes of ad hoc records. Both take an
 //!   optional limit on the rows of each table. [`exec_txn`]: either, in a [`RunningTxn`] that serves one transaction after
-//!   another. [`ExecError`]: why a transaction is refused.
+//!   another. [`exec_listed`]: the same, and it lists the transaction's after-images. [`ExecError`]: why a transaction is refused.
 //! - [`exec_all`]: executes the transactions of a batch in order, up to the first that is refused, an [`AllError`].
 //! - [`no_rows`]: the tables of a catalogue, without rows. [`first_over`]: the first table with more rows than a limit.
 //!
@@ -43,7 +43,7 @@ mod statement;
 mod transaction;
 mod write_set;
 
-pub use execute::{ExecError, exec, exec_adhoc, exec_txn};
+pub use execute::{ExecError, exec, exec_adhoc, exec_listed, exec_txn};
 pub use opening::no_rows;
 pub use over::first_over;
 pub use serial::{AllError, exec_all};

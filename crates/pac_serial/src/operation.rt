@@ -11,6 +11,8 @@ ghost use Rattle.pac_ops.specs.Operations.{values, cell_at, column_or, done};
 ghost use Rattle.pac_ops.specs.declared.program.OpKind.TheVariants as kind;
 ghost use Rattle.pac_ops.specs.Reasons.{or_abort};
 ghost use Rattle.pac_types.specs.WellFormed.{key_type, column_type, column_types};
+ghost use Rattle.pac_serial.specs.Writes.{cells_put};
+ghost use Rattle.pac_serial.specs.WriteSets.{ChangesAt};
 ghost use Rattle.pac_serial.specs.Outcomes.{Does, DoesGive};
 ghost use Rattle.pac_serial.specs.Transactions.{state_of, RunsOver};
 
@@ -169,6 +171,7 @@ pub(crate) fn delete<R: Rows>(
     requires key { IsTrue (is_wanted (type_in (types_of txn.old.env) target.now.key.now) (key_type tables.now target.now.table)) }
     requires over { RunsOver tables.now (R.tables rows.now) (R.held rows.now) txn.old.write_set }
     ensures does { Does result (done (kind.Delete target.now.table target.now.key.now) (state_of (R.held rows.now) txn.old)) (state_of (R.held rows.now) txn.new) }
+    ensures writes { OnOk result (ChangesAt (cells_put (kind.Delete target.now.table target.now.key.now) (state_of (R.held rows.now) txn.old)) txn.old.write_set txn.new.write_set) }
     ensures env { txn.new.env ≡ txn.old.env }
     ensures over { OnOk result (RunsOver tables.now (R.tables rows.now) (R.held rows.now) txn.new.write_set) }
 {
@@ -211,6 +214,7 @@ pub(crate) fn put<R: Rows>(
     requires typed { IsTrue (are_wanted (map (type_in (types_of txn.old.env)) exprs.now) (column_types tables.now target.now.table)) }
     requires over { RunsOver tables.now (R.tables rows.now) (R.held rows.now) txn.old.write_set }
     ensures does { Does result (done (kind.Put target.now.table target.now.key.now exprs.now) (state_of (R.held rows.now) txn.old)) (state_of (R.held rows.now) txn.new) }
+    ensures writes { OnOk result (ChangesAt (cells_put (kind.Put target.now.table target.now.key.now exprs.now) (state_of (R.held rows.now) txn.old)) txn.old.write_set txn.new.write_set) }
     ensures env { txn.new.env ≡ txn.old.env }
     ensures over { OnOk result (RunsOver tables.now (R.tables rows.now) (R.held rows.now) txn.new.write_set) }
 {
@@ -257,6 +261,7 @@ pub(crate) fn set<R: Rows>(
     requires column { IsTrue (is_wanted (type_in (types_of txn.old.env) value.now) (column_type tables.now target.now.table column)) }
     requires over { RunsOver tables.now (R.tables rows.now) (R.held rows.now) txn.old.write_set }
     ensures does { Does result (done (kind.SetCol target.now.table target.now.key.now column value.now) (state_of (R.held rows.now) txn.old)) (state_of (R.held rows.now) txn.new) }
+    ensures writes { OnOk result (ChangesAt (cells_put (kind.SetCol target.now.table target.now.key.now column value.now) (state_of (R.held rows.now) txn.old)) txn.old.write_set txn.new.write_set) }
     ensures env { txn.new.env ≡ txn.old.env }
     ensures over { OnOk result (RunsOver tables.now (R.tables rows.now) (R.held rows.now) txn.new.write_set) }
 {

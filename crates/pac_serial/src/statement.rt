@@ -7,7 +7,8 @@ ghost use Rattle.pac_value.specs.Scopes.{with_var};
 ghost use Rattle.pac_value.specs.declared.values.Ty.TheVariants.{Int as IntTy};
 ghost use Rattle.pac_types.specs.Unrolled.{natural, turns, turn_numbers};
 ghost use Rattle.pac_types.specs.WellFormed.{without, check, any_defines, scope_after, scope_after_all};
-ghost use Rattle.pac_serial.specs.TextMeaning.{code, code_count, run_turns, text_meaning};
+ghost use Rattle.pac_serial.specs.TextMeaning.{code, code_count, run_turns, turn_cells, text_meaning, text_cells};
+ghost use Rattle.pac_serial.specs.WriteSets.{ChangesAt};
 ghost use Rattle.pac_serial.specs.Outcomes.{RunsFrom, IsHaltWithin, IsTrapOf, moved, Sees, KeepsTypes};
 ghost use Rattle.pac_serial.specs.Transactions.{state_of, RunsOver};
 
@@ -74,6 +75,7 @@ fn exec_stmt<R: Rows>(
     requires numbers { (code stmt.now).count < 2 ^ 16 }
     requires over { RunsOver tables.now (R.tables rows.now) (R.held rows.now) txn.old.write_set }
     ensures runs { (n : ℕ) → RunsFrom n result ((code stmt.now).run n (state_of (R.held rows.now) txn.old)) (state_of (R.held rows.now) txn.new) }
+    ensures writes { OnOk result ((n : ℕ) → ChangesAt ((code stmt.now).cells n (state_of (R.held rows.now) txn.old)) txn.old.write_set txn.new.write_set) }
     ensures within { IfErr result (IsHaltWithin (code stmt.now).count) }
     ensures sees { OnOk result (Sees (scope_after tables.now stmt.now (types_of txn.old.env)) txn.new.env) }
     ensures keeps { OnOk result (KeepsTypes (check tables.now stmt.now).defines txn.old.env txn.new.env) }
@@ -158,6 +160,7 @@ fn exec_turns<R: Rows>(
     requires numbers { turns from to * code_count body.now < 2 ^ 16 }
     requires over { RunsOver tables.now (R.tables rows.now) (R.held rows.now) txn.old.write_set }
     ensures runs { (n : ℕ) → RunsFrom n result (run_turns var (map code body.now) (turn_numbers from to) n (state_of (R.held rows.now) txn.old)) (state_of (R.held rows.now) txn.new) }
+    ensures writes { OnOk result ((n : ℕ) → ChangesAt (turn_cells var (map code body.now) (turn_numbers from to) n (state_of (R.held rows.now) txn.old)) txn.old.write_set txn.new.write_set) }
     ensures within { IfErr result (IsHaltWithin (turns from to * code_count body.now)) }
     ensures keeps { OnOk result (KeepsTypes (λ y. y == var || any_defines (map (check tables.now) body.now) y) txn.old.env txn.new.env) }
     ensures over { OnOk result (RunsOver tables.now (R.tables rows.now) (R.held rows.now) txn.new.write_set) }
@@ -184,6 +187,7 @@ pub(crate) fn exec_block<R: Rows>(
     requires numbers { code_count stmts.now < 2 ^ 16 }
     requires over { RunsOver tables.now (R.tables rows.now) (R.held rows.now) txn.old.write_set }
     ensures runs { (n : ℕ) → RunsFrom n result (text_meaning stmts.now n (state_of (R.held rows.now) txn.old)) (state_of (R.held rows.now) txn.new) }
+    ensures writes { OnOk result ((n : ℕ) → ChangesAt (text_cells stmts.now n (state_of (R.held rows.now) txn.old)) txn.old.write_set txn.new.write_set) }
     ensures within { IfErr result (IsHaltWithin (code_count stmts.now)) }
     ensures keeps { OnOk result (KeepsTypes (any_defines (map (check tables.now) stmts.now)) txn.old.env txn.new.env) }
     ensures over { OnOk result (RunsOver tables.now (R.tables rows.now) (R.held rows.now) txn.new.write_set) }

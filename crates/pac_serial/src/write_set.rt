@@ -1,16 +1,18 @@
 // The changes of a transaction that has not ended.
-ghost use Rattle.std.specs.Prelude.{◌≡◌, ◌<◌, ◌≤◌, ℕ, T, length, vec_len, IfOk, IfErr, OnOk, OnErr};
+ghost use Rattle.std.specs.Prelude.{◌≡◌, ◌<◌, ◌≤◌, ◌∷◌, ℕ, T, [], length, map as each, vec_len, IfOk, IfErr, OnOk, OnErr};
 ghost use Rattle.std.specs.List.{insert};
 ghost use Rattle.std.specs.Option.{option_map};
 ghost use Rattle.std.specs.FinMap as map;
 ghost use Rattle.std.specs.FinMap.{is_sorted};
 ghost use Rattle.pac_value.specs.State.{Tables, cell_cmp, with_row};
 ghost use Rattle.pac_value.specs.Sorted.{IsOffsetOf, IsGapFor};
-ghost use Rattle.pac_serial.specs.WriteSets.{as_changed, AreUnmade, gains, loses, gained, lost};
+ghost use Rattle.pac_serial.specs.Writes.{shown};
+ghost use Rattle.pac_serial.specs.WriteSets.{as_changed, AreUnmade, ChangesAt, image_left, gains, loses, gained, lost};
 
 use crate::commit::{delete_rows, put_rows};
 use crate::pending::Pending;
-use pac_base::{Listed, NoMemory, push};
+use pac_base::{Exact, Listed, NoMemory, push};
+use pac_ops::Change;
 use pac_tables::Rows;
 use pac_value::{Key, Row};
 use std::alloc::Global;
@@ -134,6 +136,7 @@ impl WriteSet {
         ensures ok { (held : Tables) → OnOk result (as_changed held self.new ≡ with_row (as_changed held self.old) (table, key) row) }
         ensures err { OnErr result (self.new ≡ self.old) }
         ensures unmade { (number : ℕ) → table < number → AreUnmade number self.old → AreUnmade number self.new }
+        ensures cells { OnOk result (ChangesAt ((table, key) ∷ []) self.old self.new) }
     {
         match search(&self.changes, table, &key) {
             Ok(at) => self.changes[at].1.replace(row),
@@ -147,6 +150,17 @@ impl WriteSet {
         ensures { result ≡ length (map.entries self.now) }
     {
         self.changes.len() as u64
+    }
+
+    /// The after-images that the changes leave, ascending by their cells. The rows are copies.
+    pub(crate) fn images(&self, alloc: Global) -> Result<Vec<Change>, NoMemory>
+        ensures { IfOk result (λ images. images.items ≡ each image_left (map.entries self.now)) }
+    {
+        let mut images = Vec::with_capacity(alloc, self.changes.len())?;
+        for change in &self.changes {
+            images.push(image_of(alloc, change)?)?;
+        }
+        Ok(images)
     }
 
     /// How many rows the changes add to a table, and how many they take away.
@@ -174,6 +188,21 @@ impl WriteSet {
         put_rows(rows, &mut self.changes)?;
         delete_rows(rows, &self.changes);
         Ok(())
+    }
+}
+
+// The after-image that a change leaves: a copy of the row that is to stand at the cell, or none.
+fn image_of(alloc: Global, change: &CellChange) -> Result<Change, NoMemory>
+    ensures { IfOk result (λ image. image ≡ shown change.now.0 change.now.1.row) }
+{
+    let ((table, key), pending) = change;
+    let (table, key) = (*table, *key);
+    match &pending.row {
+        Some(row) => {
+            let row = row.copy(alloc)?;
+            Ok(Change::Put { table, key, row })
+        }
+        None => Ok(Change::Delete { table, key }),
     }
 }
 

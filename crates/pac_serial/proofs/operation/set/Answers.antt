@@ -10,6 +10,7 @@ use Rattle.pac_types.specs.WellFormed.{column_type, column_types}
 use Rattle.pac_types.specs.Fits.{shape}
 use Rattle.pac_types.proofs.ShapeLemmas.{row-fits, columns-of_fit}
 use Rattle.pac_serial.specs.WriteSets.{as_changed}
+use Rattle.pac_serial.proofs.WritesLemmas.{key-fits}
 use Rattle.pac_serial.proofs.FitLemmas.{types-set, column-within, runs-changed}
 use Rattle.pac_serial.proofs.operation.set.Goals as goal
 
@@ -35,5 +36,5 @@ returns-clause-over g c =
     let types : map type_of c.in_ok-row.row ≡ column_types tables c.args.target.now.table =
     ap (map type_of) c.in_ok-row.ensures ∙ types-set old (column_types tables c.args.target.now.table) c.args.column value (columns-of_fit tables cell old fit) wanted in
     let new : RowFits (map shape tables) cell c.in_ok-row.row = row-fits tables cell c.in_ok-row.row c.in_ok-key.ensures.typed types in
-    runs-changed tables (g.R.Rows.tables c.args.rows.now) (g.R.Rows.held c.args.rows.now) c.args.txn.now.write_set c.change.new.self cell (Some c.in_ok-row.row) c.requires.over
-    (λ r e. let same : c.in_ok-row.row ≡ r = cc in subst (λ (z : RowValues). RowFits (map shape tables) cell z) same new) (c.in_ok-change.ensures.ok (g.R.Rows.held c.args.rows.now)) (c.change.ensures.unmade (g.R.Rows.tables c.args.rows.now) (omega (arith, c.requires.over.count)) c.requires.over.unmade)
+    runs-changed tables (g.R.Rows.tables c.args.rows.now) (g.R.Rows.held c.args.rows.now) c.args.txn.now.write_set c.change.new.self cell (Some c.in_ok-row.row) c.requires.over (key-fits tables cell c.in_ok-key.ensures.typed)
+    (λ r e. let same : c.in_ok-row.row ≡ r = cc in subst (λ (z : RowValues). RowFits (map shape tables) cell z) same new) (c.in_ok-change.ensures.ok (g.R.Rows.held c.args.rows.now)) (c.change.ensures.unmade (g.R.Rows.tables c.args.rows.now) (omega (arith, c.requires.over.count)) c.requires.over.unmade) c.in_ok-change.ensures.cells

@@ -1,19 +1,23 @@
 -- Each form of a statement runs as its operation does, and leaves the variables that it says.
-use Rattle.std.proofs.Common.{◌≡◌, ◌∷◌, ◌+◌, ◌-◌, ◌*◌, ℕ, pos, ◌+ℤ◌, ◌-ℤ◌, ◌<ℤ◌, ◌≤ℤ◌, ap, sym, subst, ◌∙◌, arith, rules, map, drop, take, IsSome, IfErr, Result, List, FitsSigned, w64, to_z, of_z}
+use Rattle.std.proofs.Common.{◌≡◌, ◌∷◌, ◌+◌, ◌-◌, ◌*◌, ℕ, pos, ◌+ℤ◌, ◌-ℤ◌, ◌<ℤ◌, ◌≤ℤ◌, ◌||◌, ap, sym, subst, ◌∙◌, arith, rules, map, drop, take, IsSome, IfErr, Result, List, FitsSigned, w64, to_z, of_z}
 use Rattle.std.proofs.lemmas.Int.{ints, to_z-of_z}
 use Rattle.std.proofs.lemmas.List.{drop_more}
+use Rattle.std.specs.FinMap.{contains_key}
 use Rattle.pac_value.specs.Expressions.{Values, types_of}
 use Rattle.pac_types.specs.declared.statement.Stmt.{Stmt}
 use Rattle.pac_types.specs.WellFormed.{scope_after, scope_after_all, check, any_defines}
 use Rattle.pac_types.specs.Meaning.{Abort}
-use Rattle.pac_serial.specs.TextMeaning.{Code, code_step, code, code_count, run_turns, text_meaning}
+use Rattle.pac_serial.specs.TextMeaning.{Code, code_step, code, code_count, run_turns, turn_cells, text_meaning, text_cells}
 use Rattle.pac_value.specs.declared.values.Value.TheVariants.{Int}
 use Rattle.pac_ops.specs.Operations.{State, define}
 use Rattle.pac_types.specs.Unrolled.{natural, turns, turn_numbers}
 use Rattle.pac_types.proofs.StmtForms.{at-For}
 use Rattle.pac_serial.specs.declared.operation.Halt.{Halt}
-use Rattle.pac_serial.specs.WriteSets.{as_changed}
-use Rattle.pac_serial.proofs.TurnRunLemmas.{turn-well_formed, turn-runs, turn-aborts, turn-within, turn-keeps, up-one, Failed, moved-runs, moved-within, within-more}
+use Rattle.pac_serial.specs.Writes.{is_among}
+use Rattle.pac_value.specs.State.{Cell}
+use Rattle.pac_serial.specs.WriteSets.{as_changed, ChangesAt}
+use Rattle.pac_serial.proofs.WritesLemmas.{writes-on}
+use Rattle.pac_serial.proofs.TurnRunLemmas.{turn-well_formed, turn-runs, turn-writes, turn-aborts, turn-within, turn-keeps, up-one, Failed, moved-runs, moved-within, within-more}
 use Rattle.pac_serial.specs.Outcomes.{RunsFrom, IsHaltWithin, moved, Sees}
 use Rattle.pac_serial.specs.Transactions.{state_of}
 use Rattle.pac_serial.proofs.ExecLemmas.{keeps-Let, sees-Read, keeps-Read, sees-Has, keeps-Has, sees-Put, sees-Set, sees-If, keeps-If, keeps-Else, on-ok, rest-well_formed, defines-at}
@@ -91,6 +95,10 @@ exec_block-loop-i-preserved g t c =
           ∙ runs-on stmt (drop (i + 1) stmts) n (code_count (take i stmts)) (state_of held c.loop-i.txn) (state_of held c.exec_stmt.new.txn) (c.in-Ok.ensures.runs (n + code_count (take i stmts)))
           ∙ sym (ap (λ xs. text_meaning xs (n + code_count (take i stmts)) (state_of held c.loop-i.txn)) rest)
           ∙ c.loop-i.invariant.so_far n;
+      written = λ n q. ap (λ m. is_among q (text_cells (drop (i + 1) stmts) (n + m) (state_of held c.exec_stmt.new.txn)) || contains_key c.exec_stmt.new.txn.write_set q) more
+          ∙ writes-on stmt (drop (i + 1) stmts) n (code_count (take i stmts)) (state_of held c.loop-i.txn) (state_of held c.exec_stmt.new.txn) c.loop-i.txn.write_set c.exec_stmt.new.txn.write_set (c.in-Ok.ensures.runs (n + code_count (take i stmts))) (c.in-Ok.ensures.writes (n + code_count (take i stmts))) q
+          ∙ sym (ap (λ xs. is_among q (text_cells xs (n + code_count (take i stmts)) (state_of held c.loop-i.txn)) || contains_key c.loop-i.txn.write_set q) rest)
+          ∙ c.loop-i.invariant.written n q;
       number = omega (arith, more, ap code_count rest, c.loop-i.invariant.number);
       keeps = λ y h. c.in-Ok.ensures.keeps y (ap (λ s. (check c.args.tables.now s).defines y) c.index-stmts-i.is ∙ defines-at c.args.tables.now stmts i stmt y h c.loop-i-test.true) ∙ c.loop-i.invariant.keeps y h;
     }
@@ -105,6 +113,18 @@ exec_stmt-returns-in-For-clause-runs g t c =
     ap (λ (k : Code). k.run) (at-For Code code_step c.args.stmt.now e.var e.from e.to e.body e.is)
     ∙ (λ i. run_turns e.var (map code (sym c.as_slice-in-For.ensures i)) (turn_numbers (sym (to_z-of_z w64 e.from fits_from) i) (sym (to_z-of_z w64 e.to fits_to) i))) in
     λ n. subst (λ (run : ℕ → State → Result State Abort). RunsFrom n c.exec_turns.result (run n (state_of held c.args.txn.now)) (state_of held c.exec_turns.new.txn)) (sym does) (c.exec_turns.ensures.runs n)
+
+pub exec_stmt-returns-in-For-clause-writes : goal.exec_stmt-returns-in-For-clause-writes
+exec_stmt-returns-in-For-clause-writes g t c =
+    let e = c.in-For in
+    let held = g.R.Rows.held c.args.rows.now in
+    let fits_from : FitsSigned w64 e.from = search rules in
+    let fits_to : FitsSigned w64 e.to = search rules in
+    let cells : (code c.args.stmt.now).cells ≡ turn_cells e.var (map code c.as_slice-in-For.result.now) (turn_numbers (to_z w64 (of_z w64 e.from)) (to_z w64 (of_z w64 e.to))) =
+    ap (λ (k : Code). k.cells) (at-For Code code_step c.args.stmt.now e.var e.from e.to e.body e.is)
+    ∙ (λ i. turn_cells e.var (map code (sym c.as_slice-in-For.ensures i)) (turn_numbers (sym (to_z-of_z w64 e.from fits_from) i) (sym (to_z-of_z w64 e.to fits_to) i))) in
+    on-ok c.exec_turns.result _ _ (λ writes n.
+    subst (λ (written : ℕ → State → List Cell). ChangesAt (written n (state_of held c.args.txn.now)) c.args.txn.now.write_set c.exec_turns.new.txn.write_set) (sym cells) (writes n)) c.exec_turns.ensures.writes
 
 pub exec_stmt-returns-in-For-clause-within : goal.exec_stmt-returns-in-For-clause-within
 exec_stmt-returns-in-For-clause-within g t c =
@@ -195,4 +215,8 @@ exec_turns-loop-number-preserved g t c =
       so_far = λ m. ap (λ z. run_turns c.args.var (map code body) (turn_numbers z to) (m + natural (z -ℤ from) * code_count body) (state_of held c.exec_block.new.txn)) more
           ∙ turn-runs c.args.var body from n to c.loop-number.invariant.up below m (state_of held c.loop-number.txn) begun (state_of held c.exec_block.new.txn) begins (c.in-Ok.ensures.runs (m + natural (n -ℤ from) * code_count body))
           ∙ c.loop-number.invariant.so_far m;
+      written = λ m q. ap (λ z. is_among q (turn_cells c.args.var (map code body) (turn_numbers z to) (m + natural (z -ℤ from) * code_count body) (state_of held c.exec_block.new.txn)) || contains_key c.exec_block.new.txn.write_set q) more
+          ∙ turn-writes c.args.var body from n to c.loop-number.invariant.up below m (state_of held c.loop-number.txn) begun (state_of held c.exec_block.new.txn) c.loop-number.txn.write_set c.exec_block.new.txn.write_set begins
+          (c.in-Ok.ensures.runs (m + natural (n -ℤ from) * code_count body)) (c.in-Ok.ensures.writes (m + natural (n -ℤ from) * code_count body)) q
+          ∙ c.loop-number.invariant.written m q;
     }

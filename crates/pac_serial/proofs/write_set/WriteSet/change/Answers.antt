@@ -9,6 +9,7 @@ use Rattle.pac_value.proofs.CellLemmas.{cells_total}
 use Rattle.pac_serial.specs.WriteSets.{Change, Changes, as_changed, AreUnmade}
 use Rattle.pac_value.proofs.SortedLemmas.{found-sorted, found-map, gap-sorted, gap-map}
 use Rattle.pac_serial.proofs.WriteSetLemmas.{seen-insert, unmade-insert}
+use Rattle.pac_serial.proofs.WritesLemmas.{changes_at-insert}
 use Rattle.pac_serial.proofs.write_set.WriteSet.change.Goals as goal
 
 -- what is seen once the changes are those before and one more
@@ -75,3 +76,21 @@ returns-in_ok-add_at-in-Err-clause-unmade c number within unmade =
 
 pub returns-in_err-add_at-in-Err-clause-unmade : goal.returns-in_err-add_at-in-Err-clause-unmade
 returns-in_err-add_at-in-Err-clause-unmade c number within unmade = subst (λ (m : Changes). AreUnmade number m) (sym (ap (map.from_sorted {R = cell_cmp}) c.in_err-add_at-in-Err.ensures.err ∙ c.self.view_is)) unmade
+
+pub returns-in-Ok-clause-cells : goal.returns-in-Ok-clause-cells
+returns-in-Ok-clause-cells c =
+    let cell : Cell = (c.args.table, c.args.key) in
+    let all = c.self.inside.changes.items in
+    let offset = subst (λ (es : List Change). IsOffsetOf es cell c.in-Ok.at) c.deref.ensures.value c.in-Ok.ensures.found in
+    let here = ap (λ (x : Change). map.from_sorted {R = cell_cmp} (set all c.in-Ok.at (x.0, c.replace.new.self))) c.index_mut.ensures.value in
+    let new = here ∙ found-map cells_total all c.self.invariant cell c.in-Ok.at offset c.index_mut.result.now c.replace.new.self ∙ ap (λ (m : Changes). map.insert m cell c.replace.new.self) c.self.view_is in
+    changes_at-insert c.args.self.now (map.from_sorted (set all c.in-Ok.at (c.index_mut.result.now.0, c.replace.new.self))) cell c.replace.new.self new
+
+pub returns-in_ok-add_at-in-Err-clause-cells : goal.returns-in_ok-add_at-in-Err-clause-cells
+returns-in_ok-add_at-in-Err-clause-cells c =
+    let cell : Cell = (c.args.table, c.args.key) in
+    let all = c.self.inside.changes.items in
+    let gap = subst (λ (es : List Change). IsGapFor cell_cmp es cell c.in-Err.at) c.deref.ensures.value c.in-Err.ensures.absent in
+    let pending : Pending = c.new.result in
+    let new = ap (map.from_sorted {R = cell_cmp}) c.in_ok-add_at-in-Err.ensures.ok ∙ gap-map cells_total all c.self.invariant cell c.in-Err.at gap pending ∙ ap (λ (m : Changes). map.insert m cell pending) c.self.view_is in
+    changes_at-insert c.args.self.now (map.from_sorted c.add_at.new.changes.items) cell pending new
