@@ -1,8 +1,7 @@
 -- What laying the after-images of transactions gives is what executing them gives.
 use Rattle.std.proofs.Common.{◌≡◌, ◌∙◌, ℕ, ◌+◌, Bool, true, false, cond, ◌||◌, List, [], ◌∷◌, ◌++◌, map, Option, Some, None, is_some, Result, Ok, Err, refl, sym, ap, subst}
-use Rattle.std.specs.List.{list_any}
 use Rattle.std.specs.Ordering.{eq_by_cmp}
-use Rattle.std.specs.FinMap.{get, contains_key, keys, empty, contains_key-keys, get-empty, get-insert, same_map}
+use Rattle.std.specs.FinMap.{get, keys, contains_key-keys, same_map}
 use Rattle.pac_value.specs.declared.values.Value.{Value}
 use Rattle.pac_value.specs.declared.values.Value.TheVariants.{Int, Text, Bool as Truth}
 use Rattle.pac_value.specs.declared.expr.Trap.{Trap}
@@ -22,17 +21,14 @@ use Rattle.pac_ops.specs.Uses.{modifies}
 use Rattle.pac_ops.specs.Operations.{State, Effect, Nothing, Gives, Leaves, touched, effect, row_at, column_or, with_effect, unless_asked, done, define, opening}
 use Rattle.pac_ops.specs.Transactions.{with_change, with_changes}
 use Rattle.pac_types.specs.declared.procedure.Proc.{Proc}
-use Rattle.pac_types.specs.Meaning.{Abort, at_operation, branch, runs, step_count, meaning, called}
+use Rattle.pac_types.specs.Meaning.{Abort, at_operation, branch, runs, step_count, meaning}
 use Rattle.pac_types.specs.Execution.{called_at, txn_meaning, in_txn, serial}
 use Rattle.pac_types.specs.Unrolled.{UnrolledSteps, End, Op, Branch, unrolled}
 use Rattle.pac_bytes.proofs.Results.{bind_ok, ok_same}
-use Rattle.pac_tuple.specs.AfterImages.{if_well, cells_in, cells_put, cells_run, cells_called, cells_written, cell_set, shown, image_in, after_images, all_after_images}
-use Rattle.pac_tuple.specs.Images.{image_cell}
+use Rattle.pac_serial.specs.Writes.{is_among, if_well, cells_in, cells_put, cells_run, cells_called, image_cell, cells_written, cell_set, shown, image_in, after_images}
+use Rattle.pac_serial.proofs.ListedLemmas.{set_has}
+use Rattle.pac_tuple.specs.AfterImages.{all_after_images}
 use Rattle.pac_tuple.specs.Laying.{tables_laid}
-
--- the cell is one of these
-abbrev is_among : Cell → List Cell → Bool
-is_among q cells = list_any (eq_by_cmp cell_cmp q) cells
 
 -- ---- laying images that show one state
 
@@ -53,14 +49,6 @@ laid_rows after (c ∷ cs) t q =
     go true false e = ap (get after) (sym (tied_same q c e))
     go false true e = refl
     go false false e = refl
-
-set_has : (cells : List Cell) (q : Cell) → contains_key (cell_set cells) q ≡ is_among q cells
-set_has [] q = ap is_some (get-empty cell_cmp q)
-set_has (c ∷ cells) q = ap is_some (get-insert cells_total (cell_set cells) c tt q) ∙ go (eq_by_cmp cell_cmp q c) ∙ ap (λ (b : Bool). eq_by_cmp cell_cmp q c || b) (set_has cells q)
-  where
-    go : (b : Bool) → is_some (cond b (Some tt) (get (cell_set cells) q)) ≡ b || contains_key (cell_set cells) q
-    go true = refl
-    go false = refl
 
 -- where nothing but these cells differs, laying what stands at them gives the whole
 pub laid_cells : (before after : Tables) (cells : List Cell) → ((q : Cell) → is_among q cells ≡ false → get after q ≡ get before q) → with_changes before (map (image_in after) (keys (cell_set cells))) ≡ after

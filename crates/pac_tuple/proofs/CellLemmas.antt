@@ -17,7 +17,7 @@ use Rattle.pac_entry.specs.declared.fault.EntryFault.{EntryFault}
 use Rattle.pac_entry.specs.declared.fault.EntryFaultKind.TheVariants.{Tag, UnknownTable, WrongRow}
 use Rattle.pac_entry.specs.Kinds.{fault_at, as_entry_fault, as_fault_of}
 use Rattle.pac_entry.specs.EntryReading.{entry_byte, entry_number, counted_values, next_put, next_delete, next_change, next_place, next_cell}
-use Rattle.pac_tuple.specs.Images.{image_cell}
+use Rattle.pac_serial.specs.Writes.{image_cell}
 
 -- the cell of this image is read here
 abbrev CellIs : List Table → Rest → Change → Type 0

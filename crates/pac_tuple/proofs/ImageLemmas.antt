@@ -21,7 +21,8 @@ use Rattle.pac_entry.specs.EntryReading.{next_cell, next_change}
 use Rattle.pac_entry.proofs.ChangeLemmas.{AreFewTables, change_codec}
 use Rattle.pac_tuple.specs.declared.fault.ImageFaultKind.TheVariants.{Tag, TooMany, Order}
 use Rattle.pac_tuple.specs.declared.images.TheConstants.{MAX_IMAGES}
-use Rattle.pac_tuple.specs.Images.{image_cell, is_cell_above, AscendAfter, AreTxnImagesOf, images_bytes}
+use Rattle.pac_serial.specs.Writes.{image_cell}
+use Rattle.pac_tuple.specs.Images.{is_cell_above, AscendAfter, AreTxnImagesOf, images_bytes}
 use Rattle.pac_tuple.specs.ImageReading.{image_byte, image_number, next_image, next_ascending, counted_images, next_images}
 use Rattle.pac_tuple.specs.Kinds.{image_fault_at, as_short_image, as_image_fault}
 use Rattle.pac_tuple.proofs.CellLemmas.{cell_read}

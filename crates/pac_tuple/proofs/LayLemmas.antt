@@ -14,7 +14,8 @@ use Rattle.pac_ops.specs.declared.transaction.Change.{Change}
 use Rattle.pac_ops.specs.declared.transaction.Change.TheVariants.{Put, Delete}
 use Rattle.pac_ops.specs.Transactions.{with_change, with_changes}
 use Rattle.pac_tuple.specs.declared.share.CellShare.{CellShare}
-use Rattle.pac_tuple.specs.Images.{image_cell, image_row}
+use Rattle.pac_serial.specs.Writes.{image_cell}
+use Rattle.pac_tuple.specs.Images.{image_row}
 use Rattle.pac_tuple.specs.Laying.{tables_laid, AreLaidWithin}
 use Rattle.pac_tuple.specs.Shares.{share_number, image_left_at, last_at, last_in, LastRows, AreLastOf, AreRowsWithin}
 

@@ -2,6 +2,7 @@ pub mod CellLemmas
 pub mod ImageLemmas
 pub mod ReadingLemmas
 pub mod AfterLemmas
+pub mod RecordLemmas
 pub mod ShareLemmas
 pub mod LastLemmas
 pub mod LayLemmas

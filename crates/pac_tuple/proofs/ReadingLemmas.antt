@@ -15,7 +15,8 @@ use Rattle.pac_tuple.specs.declared.fault.ImageFault.{ImageFault}
 use Rattle.pac_entry.specs.declared.fault.EntryFault.{EntryFault}
 use Rattle.pac_entry.specs.EntryReading.{next_cell, next_change}
 use Rattle.pac_tuple.specs.declared.fault.ImageFaultKind.TheVariants.{Order}
-use Rattle.pac_tuple.specs.Images.{image_cell, is_cell_above, AscendAfter}
+use Rattle.pac_serial.specs.Writes.{image_cell}
+use Rattle.pac_tuple.specs.Images.{is_cell_above, AscendAfter}
 use Rattle.pac_tuple.specs.Kinds.{image_fault_at, as_image_fault}
 use Rattle.pac_tuple.proofs.CellLemmas.{cell_read}
 use Rattle.pac_tuple.specs.ImageReading.{next_image, next_ascending}

@@ -8,7 +8,8 @@ use Rattle.pac_value.proofs.CellLemmas.{cells_total, tied_same}
 use Rattle.pac_ops.specs.declared.transaction.Change.{Change}
 use Rattle.pac_bytes.proofs.Loops.{next_key}
 use Rattle.pac_tuple.specs.declared.share.CellShare.{CellShare}
-use Rattle.pac_tuple.specs.Images.{image_cell, image_row}
+use Rattle.pac_serial.specs.Writes.{image_cell}
+use Rattle.pac_tuple.specs.Images.{image_row}
 use Rattle.pac_tuple.specs.Shares.{bytes_mixed, share_number, image_left_at, last_at, last_in, in_share, LastRows}
 
 -- ---- numbers of texts

@@ -10,7 +10,8 @@ use Rattle.pac_ops.specs.declared.transaction.Change.TheVariants.{Put, Delete}
 use Rattle.pac_types.specs.declared.table.Table.{Table}
 use Rattle.pac_types.specs.Fits.{shape}
 use Rattle.pac_entry.specs.Entries.{IsRecord}
-use Rattle.pac_tuple.specs.Images.{image_cell, AreTxnImagesOf}
+use Rattle.pac_serial.specs.Writes.{image_cell}
+use Rattle.pac_tuple.specs.Images.{AreTxnImagesOf}
 use Rattle.pac_tuple.specs.Laying.{AreLaidWithin}
 
 there : {A : Type 0} (P : A → Type 0) (xs : List A) (i : ℕ) → IsSomeAnd (slice_get xs i) P → i < length xs

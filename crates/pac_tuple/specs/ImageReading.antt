@@ -12,7 +12,8 @@ use Rattle.pac_entry.specs.EntryReading.{next_cell, next_change}
 use Rattle.pac_tuple.specs.declared.fault.ImageFault.{ImageFault}
 use Rattle.pac_tuple.specs.declared.fault.ImageFaultKind.TheVariants.{Tag, TooMany, Order}
 use Rattle.pac_tuple.specs.declared.images.TheConstants.{MAX_IMAGES}
-use Rattle.pac_tuple.specs.Images.{image_cell, is_cell_above}
+use Rattle.pac_serial.specs.Writes.{image_cell}
+use Rattle.pac_tuple.specs.Images.{is_cell_above}
 use Rattle.pac_tuple.specs.Kinds.{image_fault_at, as_short_image, as_image_fault}
 
 -- the tag

@@ -8,12 +8,8 @@ use Rattle.pac_ops.specs.declared.transaction.Change.{Change}
 use Rattle.pac_ops.specs.declared.transaction.Change.TheVariants.{Put, Delete}
 use Rattle.pac_types.specs.declared.table.Table.{Table}
 use Rattle.pac_entry.specs.Entries.{change_bytes, IsRecord}
+use Rattle.pac_serial.specs.Writes.{image_cell}
 use Rattle.pac_tuple.specs.declared.images.TheConstants.{MAX_IMAGES}
-
--- where an after-image stands
-abbrev pub image_cell : Change → Cell
-image_cell (Put table key row) = (table, key)
-image_cell (Delete table key) = (table, key)
 
 -- the row that the transaction left there, or none
 abbrev pub image_row : Change → Option RowValues

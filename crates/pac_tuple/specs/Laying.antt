@@ -4,7 +4,7 @@ use Rattle.std.specs.List.{All}
 use Rattle.pac_value.specs.State.{Tables}
 use Rattle.pac_ops.specs.declared.transaction.Change.{Change}
 use Rattle.pac_ops.specs.Transactions.{with_changes}
-use Rattle.pac_tuple.specs.Images.{image_cell}
+use Rattle.pac_serial.specs.Writes.{image_cell}
 
 -- the tables after lists of after-images: list after list, each cell that is named gets its row, or none
 abbrev pub tables_laid : Tables → List (List Change) → Tables

@@ -3,4 +3,5 @@ pub mod Images
 pub mod ImageReading
 pub mod Laying
 pub mod AfterImages
+pub mod Recording
 pub mod Shares

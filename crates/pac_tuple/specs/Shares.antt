@@ -11,7 +11,8 @@ use Rattle.pac_value.specs.declared.values.Key.{Key}
 use Rattle.pac_value.specs.declared.values.Key.TheVariants as key
 use Rattle.pac_value.specs.State.{Cell, cell_cmp, RowValues}
 use Rattle.pac_ops.specs.declared.transaction.Change.{Change}
-use Rattle.pac_tuple.specs.Images.{image_cell, image_row}
+use Rattle.pac_serial.specs.Writes.{image_cell}
+use Rattle.pac_tuple.specs.Images.{image_row}
 use Rattle.pac_tuple.specs.declared.share.CellShare.{CellShare}
 
 -- a number with bytes mixed in, one after another

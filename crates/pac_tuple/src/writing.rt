@@ -3,7 +3,7 @@ ghost use Rattle.std.specs.Prelude.{◌<◌, [], length, slice_index_or, OnOk};
 ghost use Rattle.std.specs.List.{flat_map, All};
 ghost use Rattle.pac_value.specs.Growth.{Grew};
 ghost use Rattle.pac_entry.specs.Entries.{change_bytes, ChangeHasBytes};
-ghost use Rattle.pac_tuple.specs.Images.{images_bytes};
+ghost use Rattle.pac_tuple.specs.Images.{images_bytes, AreTxnImages};
 
 use crate::images::{Images, TxnImages};
 use pac_base::NoMemory;
@@ -23,7 +23,8 @@ pub fn write_images(images: &Images, at: usize, out: &mut Vec<u8>) -> Result<(),
     requires { at < length images.now }
     // After the old bytes stand those of the list.
     ensures bytes { OnOk result (Grew out.old.items out.new.items (images_bytes (slice_index_or images.now at []))) }
-    // Each of its images is a record that is read again, where it fits the catalogue.
+    // It is a list of after-images, and each of these a record that is read again, where it fits the catalogue.
+    ensures list { OnOk result (AreTxnImages (slice_index_or images.now at [])) }
     ensures form { OnOk result (All ChangeHasBytes (slice_index_or images.now at [])) }
 {
     put_list(out, &images.as_slice()[at])
@@ -31,6 +32,7 @@ pub fn write_images(images: &Images, at: usize, out: &mut Vec<u8>) -> Result<(),
 
 fn put_list(out: &mut Vec<u8>, list: &TxnImages) -> Result<(), NoMemory>
     ensures bytes { OnOk result (Grew out.old.items out.new.items (images_bytes list.now)) }
+    ensures list { OnOk result (AreTxnImages list.now) }
     ensures form { OnOk result (All ChangeHasBytes list.now) }
 {
     let images = list.items();

@@ -1,5 +1,5 @@
 -- The list that is added is in the tables.
-use Rattle.std.proofs.Common.{◌++◌, ◌∷◌, [], List, length, sym, subst}
+use Rattle.std.proofs.Common.{List, length, sym, subst}
 use Rattle.pac_ops.specs.declared.transaction.Change.{Change}
 use Rattle.pac_tuple.specs.Laying.{AreLaidWithin}
 use Rattle.pac_tuple.proofs.WithinLemmas.{one_list_within}

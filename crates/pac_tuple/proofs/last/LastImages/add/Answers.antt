@@ -1,10 +1,9 @@
 -- An image of another share, or at a cell that has a later one, adds nothing; any other is kept.
-use Rattle.std.proofs.Common.{◌≡◌, ◌∙◌, nat_eq, is_some, sym, ap, true, false}
+use Rattle.std.proofs.Common.{◌∙◌, nat_eq, is_some, sym, ap}
 use Rattle.std.specs.FinMap.{get, insert}
 use Rattle.pac_value.specs.State.{Cell}
 use Rattle.pac_value.proofs.CellLemmas.{cells_total, cells_antisymmetric}
 use Rattle.pac_value.proofs.MapLemmas.{insert-by_test}
-use Rattle.pac_tuple.specs.Images.{image_cell}
 use Rattle.pac_tuple.specs.Shares.{share_number, LastRows}
 use Rattle.pac_tuple.proofs.LastLemmas.{cell_eq, cells_tie, found-at}
 use Rattle.pac_tuple.proofs.ShareLemmas.{add-outside, add-known, add-new}
