@@ -1,15 +1,15 @@
 #!/bin/bash
 # Times the program and parts of it, for docs/COSTS.md.
 #
-#     tools/times.sh replay|input|parts|log|slots|held|runs|committed|rows|pieces|hand|shares|serial|workers|restarts|stream
+#     tools/times.sh replay|input|parts|log|slots|held|runs|committed|rows|pieces|hand|shares|serial|workers|restarts|stream|images
 #
-# `replay`, `input`, `held`, `runs`, `workers` and `stream` time the program, which is $PACMAN or crates/pacman/out/pacman, and `committed`, `shares`
-# and `restarts` count its instructions. The others time pac_bench, and `pieces` and `serial` count its instructions; it is $PAC_BENCH or
+# `replay`, `input`, `held`, `runs`, `workers`, `stream` and `images` time the program, which is $PACMAN or crates/pacman/out/pacman, and `committed`, `shares`,
+# `restarts` and `images` count its instructions. The others time pac_bench, and `pieces` and `serial` count its instructions; it is $PAC_BENCH or
 # crates/pac_bench/out/pac_bench, as `(cd crates/pac_bench && rt run -- copy 1)` makes it. All files are made in a new folder of the
 # current directory, which is removed: its disk is what `log`, `slots` and `runs` time.
 set -eu -o pipefail
 top=$(cd "$(dirname "$0")/.." && pwd)
-pacman=$(realpath "${PACMAN:-$top/crates/pacman/out/pacman}")
+pacman=$(realpath -m "${PACMAN:-$top/crates/pacman/out/pacman}")
 bench=$(realpath -m "${PAC_BENCH:-$top/crates/pac_bench/out/pac_bench}")
 add="$top/crates/pac_examples/data/add.script"
 TIMEFORMAT='  %R s'
@@ -103,6 +103,17 @@ synced() {
 # A command by N workers, with an input, whose output isn't looked at.
 run_with() { "$pacman" "$2" --workers "$1" < "$3" > /dev/null; }
 
+# The instructions of a command, which may refuse its input.
+count_of() {
+    valgrind --tool=callgrind --callgrind-out-file=/dev/null "$pacman" "$@" > printed 2> counted || true
+    sed -n 's/.*Collected : *//p' counted
+}
+
+# A command by one worker that refuses its input at the end.
+run_refused() { "$pacman" "$1" --workers 1 < "$2" > /dev/null 2>&1 || true; }
+
+run_images() { "$pacman" replay --images < "$1" > /dev/null; }
+
 run_replay() { "$pacman" replay < "$1" > /dev/null; }
 
 # The time and the most memory of a command, whose input is the file $1. A child of this shell would count its memory too, so
@@ -151,7 +162,8 @@ pieces)
 hand)
     # 1,024 pieces that wait for none, handed out over atomic words to one thread and to four; and as many that put a row each, which one
     # worker and four take under the lock of a core.
-    for part in hand_one hand_four locked_one locked_four; do timed "1,000 times 1,024 pieces: $part" "$bench" "$part" 1000; done
+    for part in hand_one hand_four; do timed "10,000 times 1,024 pieces: $part" "$bench" "$part" 10000; done
+    for part in locked_one locked_four; do timed "3,000 times 1,024 pieces: $part" "$bench" "$part" 3000; done
     ;;
 shares)
     # What is made of the pieces of a stress test by one worker and by two, function by function, each with all that it calls. What
@@ -291,6 +303,31 @@ stream)
     ;;
 rows)
     for part in few few_limited many many_limited; do timed "5,000 times 1,000 transactions: $part" "$bench" "$part" 5000; done
+    ;;
+images)
+    # A million after-images of the bank: deposits to 100,000 names, two images each. What is read and then refused at its last
+    # byte or line shows what the reading takes.
+    cp "$top/crates/pac_examples/data/bank.catalogue" catalogue
+    awk 'BEGIN { for (i = 0; i < 500000; i++) printf "call Deposit(%d, 1, %d)\n", 1 + (i * 7919) % 100000, i % 7 }' > lines
+    (cat catalogue; echo ---; cat lines) > script
+    "$pacman" replay --images --workers 1 < script > images
+    "$pacman" init < catalogue
+    "$pacman" run --batch 64 < lines > replies
+    (cat images; printf '\377') > refused.images
+    (cat script; echo delete) > refused.script
+    ls -l script images pacman.log | awk '{ print $9 ": " $5 " bytes" }'
+    for command in "lay refused.images" "lay images" "replay refused.script" "replay script"; do
+        set -- $command
+        echo "$1 of $2: $(count_of "$1" --workers 1 < "$2") instructions"
+    done
+    echo "replay --images of script: $(count_of replay --images < script) instructions"
+    for round in 1 2 3; do
+        timed "reads the images" run_refused lay refused.images
+        for workers in 1 2 4; do timed "lays them by $workers" run_with $workers lay images; done
+        timed "reads the script" run_refused replay refused.script
+        timed "replays it by 1" run_with 1 replay script
+        timed "makes the images" run_images script
+    done
     ;;
 *)
     sed -n '2,9s/^# \{0,1\}//p' "$top/tools/times.sh"

@@ -29,13 +29,17 @@ recover_app = with_two (codes "recover") (codes "workers") (codes "rows")
 abbrev pub explain_app : App
 explain_app = with_flag (codes "text") (plain_app (codes "explain"))
 
--- replay, with --workers and --rows
+-- replay, with --workers, --rows and --images
 abbrev pub replay_app : App
-replay_app = with_two (codes "replay") (codes "workers") (codes "rows")
+replay_app = with_flag (codes "images") (with_two (codes "replay") (codes "workers") (codes "rows"))
 
 -- stress, with a count and --workers
 abbrev pub stress_app : App
 stress_app = with_option (codes "workers") (with_operand (codes "count") (plain_app (codes "stress")))
+
+-- lay, with --workers and --rows
+abbrev pub lay_app : App
+lay_app = with_two (codes "lay") (codes "workers") (codes "rows")
 
 -- ---- their numbers
 
@@ -71,11 +75,15 @@ recover_of rows = both (λ workers limit. the.Recover workers limit) (workers_in
 
 -- replay, by what clap finds
 abbrev pub replay_of : List Row → Option Command
-replay_of rows = both (λ workers limit. the.Replay workers limit) (workers_in rows) (rows_in rows)
+replay_of rows = both (λ workers limit. the.Replay workers limit (is_set (codes "images") rows)) (workers_in rows) (rows_in rows)
 
 -- stress, by what clap finds
 abbrev pub stress_of : List Row → Option Command
 stress_of rows = both (λ count workers. the.Stress count workers) (count_in rows) (workers_in rows)
+
+-- lay, by what clap finds
+abbrev pub lay_of : List Row → Option Command
+lay_of rows = both (λ workers limit. the.Lay workers limit) (workers_in rows) (rows_in rows)
 
 -- init, by its arguments
 abbrev pub init_said : List Text → Option Command
@@ -101,6 +109,10 @@ replay_said arguments = option_and_then replay_of (found_rows replay_app argumen
 abbrev pub stress_said : List Text → Option Command
 stress_said arguments = option_and_then stress_of (found_rows stress_app arguments)
 
+-- lay, by its arguments
+abbrev pub lay_said : List Text → Option Command
+lay_said arguments = option_and_then lay_of (found_rows lay_app arguments)
+
 -- the command that the name says
 abbrev pub command_named : Text → List Text → Option Command
 command_named name arguments =
@@ -110,7 +122,8 @@ command_named name arguments =
     else (if bytes_eq name (codes "explain") then explain_said arguments
     else (if bytes_eq name (codes "replay") then replay_said arguments
     else (if bytes_eq name (codes "stress") then stress_said arguments
-    else None)))))
+    else (if bytes_eq name (codes "lay") then lay_said arguments
+    else None))))))
 
 -- what the arguments say is to be done, by the first of them
 abbrev pub command_of : List Text → Option Command

@@ -3,7 +3,7 @@ ghost use Rattle.std.specs.Prelude.{◌≡◌, ◌∷◌, [], codes, true, false
 ghost use Rattle.std.specs.String.{string_bytes};
 ghost use Rattle.clap.specs.Words.{rows_of, found_of};
 ghost use Rattle.pac_arguments.specs.Found.{found_rows};
-ghost use Rattle.pac_arguments.specs.Commands.{command_of, command_named, with_two, group_size_in, rows_in, workers_in, count_in, init_app, explain_app, stress_app, init_said, run_said, recover_said, explain_said, replay_said, stress_said, run_of, recover_of, replay_of, stress_of};
+ghost use Rattle.pac_arguments.specs.Commands.{command_of, command_named, with_two, group_size_in, rows_in, workers_in, count_in, init_app, explain_app, replay_app, stress_app, init_said, run_said, recover_said, explain_said, replay_said, stress_said, lay_said, run_of, recover_of, replay_of, stress_of, lay_of};
 
 use crate::found::{find, is_set, option_number, plain_app, with_flag, with_operand, with_option};
 use crate::limits::{
@@ -20,15 +20,35 @@ pub enum Command {
     /// `init`
     Init,
     /// `run [--batch N] [--rows N]`: groups of at most N replies, and the limit of rows.
-    Run { group_size: u32, rows: u32 },
+    Run {
+        group_size: u32,
+        rows: u32,
+    },
     /// `recover [--workers N] [--rows N]`
-    Recover { workers: u32, rows: u32 },
+    Recover {
+        workers: u32,
+        rows: u32,
+    },
     /// `explain [--text]`: whether the catalogue's text comes first.
-    Explain { text: bool },
-    /// `replay [--workers N] [--rows N]`
-    Replay { workers: u32, rows: u32 },
+    Explain {
+        text: bool,
+    },
+    /// `replay [--workers N] [--rows N] [--images]`: whether the log of after-images is written in place of the tables.
+    Replay {
+        workers: u32,
+        rows: u32,
+        images: bool,
+    },
     /// `stress N [--workers N]`: that many transactions.
-    Stress { count: u32, workers: u32 },
+    Stress {
+        count: u32,
+        workers: u32,
+    },
+    /// `lay [--workers N] [--rows N]`
+    Lay {
+        workers: u32,
+        rows: u32,
+    },
 }
 
 fn group_size_in(matches: &ArgMatches<'_>) -> Option<u32>
@@ -86,6 +106,17 @@ fn find_explain<'a>(
         with_flag(alloc, plain_app(alloc, "explain"), "text")?,
         arguments,
     )
+}
+
+fn find_replay<'a>(
+    alloc: Global,
+    arguments: &'a [String],
+) -> Result<Option<ArgMatches<'a>>, NoMemory>
+    ensures { IfOk result (λ matches. option_map (λ m. rows_of (found_of m)) matches ≡ found_rows replay_app (map string_bytes arguments.entry.now)) }
+{
+    let with_workers = with_option(alloc, plain_app(alloc, "replay"), "workers")?;
+    let command = with_option(alloc, with_workers, "rows")?;
+    find(with_flag(alloc, command, "images")?, arguments)
 }
 
 fn find_stress<'a>(
@@ -157,13 +188,18 @@ fn replay_of(matches: &ArgMatches<'_>) -> Option<Command>
 {
     let workers = workers_in(matches)?;
     let rows = rows_in(matches)?;
-    Some(Command::Replay { workers, rows })
+    let images = is_set(matches, "images");
+    Some(Command::Replay {
+        workers,
+        rows,
+        images,
+    })
 }
 
 fn replay(alloc: Global, arguments: &[String]) -> Result<Option<Command>, NoMemory>
     ensures { IfOk result (λ command_of. command_of ≡ replay_said (map string_bytes arguments.now)) }
 {
-    match find_two(alloc, "replay", "workers", "rows", arguments)? {
+    match find_replay(alloc, arguments)? {
         Some(matches) => Ok(replay_of(&matches)),
         None => Ok(None),
     }
@@ -186,6 +222,23 @@ fn stress(alloc: Global, arguments: &[String]) -> Result<Option<Command>, NoMemo
     }
 }
 
+fn lay_of(matches: &ArgMatches<'_>) -> Option<Command>
+    ensures { result ≡ lay_of (rows_of (found_of matches.now)) }
+{
+    let workers = workers_in(matches)?;
+    let rows = rows_in(matches)?;
+    Some(Command::Lay { workers, rows })
+}
+
+fn lay(alloc: Global, arguments: &[String]) -> Result<Option<Command>, NoMemory>
+    ensures { IfOk result (λ command_of. command_of ≡ lay_said (map string_bytes arguments.now)) }
+{
+    match find_two(alloc, "lay", "workers", "rows", arguments)? {
+        Some(matches) => Ok(lay_of(&matches)),
+        None => Ok(None),
+    }
+}
+
 // What the arguments say is to be done, where this is the first of them.
 fn command_named(
     alloc: Global,
@@ -201,6 +254,7 @@ fn command_named(
         "explain" => explain(alloc, arguments),
         "replay" => replay(alloc, arguments),
         "stress" => stress(alloc, arguments),
+        "lay" => lay(alloc, arguments),
         _ => Ok(None),
     }
 }
@@ -233,5 +287,7 @@ pub fn spelled_law()
     ensures more { command_of (codes "init" ∷ codes "here" ∷ []) ≡ None }
     ensures plain { command_of (codes "explain" ∷ []) ≡ Some (Command.Explain false) }
     ensures text { command_of (codes "explain" ∷ codes "--text" ∷ []) ≡ Some (Command.Explain true) }
-    ensures replay { command_of (codes "replay" ∷ []) ≡ Some (Command.Replay 4 1000000) }
+    ensures replay { command_of (codes "replay" ∷ []) ≡ Some (Command.Replay 4 1000000 false) }
+    ensures images { command_of (codes "replay" ∷ codes "--images" ∷ codes "--rows=2" ∷ []) ≡ Some (Command.Replay 4 2 true) }
+    ensures lay { command_of (codes "lay" ∷ codes "--workers" ∷ codes "16" ∷ []) ≡ Some (Command.Lay 16 1000000) }
 {}

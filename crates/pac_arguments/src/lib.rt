@@ -1,6 +1,6 @@
 //! The arguments of the command line.
 //!
-//! [`parse_args`] reads them: a [`Command`], which is one of six commands with its numbers, or nothing where the arguments
+//! [`parse_args`] reads them: a [`Command`], which is one of seven commands with its numbers, or nothing where the arguments
 //! are no command.
 //!
 //! ```

@@ -1,12 +1,12 @@
 -- Runs one after another keep what they acknowledge.
-use Rattle.std.proofs.Common.{◌≡◌, ◌∙◌, ◌⊎◌, ◌≤◌, ◌+◌, ◌||◌, ◌==◌, ℕ, zero, suc, Bool, false, List, [], ◌∷◌, ◌++◌, length, take, drop, Option, Some, None, inl, inr, refl, sym, ap, subst, arith}
+use Rattle.std.proofs.Common.{◌≡◌, ◌∙◌, ◌≤◌, ◌||◌, ◌==◌, ℕ, zero, suc, Bool, false, List, [], ◌∷◌, ◌++◌, length, take, drop, Option, Some, inl, inr, refl, sym, ap, subst, arith}
 use Rattle.std.specs.Prelude.{◌≢◌, IsTrue}
 use Rattle.std.specs.List.{list_any}
 use Rattle.std.specs.FinMap.{empty}
 use Rattle.std.proofs.lemmas.List.{append-nil, take-append-drop, take-append-le}
 use Rattle.pac_base.proofs.TestLemmas.{or_of_false, same_number, unlike}
 use Rattle.pac_ops.specs.declared.transaction.Txn.{Txn}
-use Rattle.pac_outside.specs.Devices.{AllLeave, AreImages, OnceKnown, all_known}
+use Rattle.pac_outside.specs.Devices.{AreImages, OnceKnown, all_known}
 use Rattle.pac_outside.specs.Disk.{DiskState, DiskHistory, IsImage, settled}
 use Rattle.pac_outside.specs.Parts.{reads_of}
 use Rattle.pac_outside.proofs.Images.{one_image}
@@ -15,11 +15,11 @@ use Rattle.pac_types.specs.Typing.{CatalogueState}
 use Rattle.pac_log.specs.declared.header.HeaderForm.TheVariants.{First}
 use Rattle.pac_log.specs.Logs.{header_bytes, header_with}
 use Rattle.pac_types.specs.Accepted.{IsAccepted}
-use Rattle.pac_store.specs.Images.{Images, IfImagesKnown}
+use Rattle.pac_store.specs.Images.{Images}
 use Rattle.pac_store.proofs.ImageLemmas.{devices-same, images-of}
 use Rattle.pac_store.specs.Stands.{StandsFor}
 use Rattle.pac_store.specs.Made.{IsNewStore, MakesStore}
-use Rattle.pac_session.specs.Session.{Rules, SessionState, committed}
+use Rattle.pac_session.specs.Session.{committed}
 use Rattle.pac_run.specs.Acked.{Acknowledges}
 use Rattle.pac_run.specs.Opening.{AllStand}
 use Rattle.pac_run.specs.Run.{history_after}

@@ -9,8 +9,6 @@ use Rattle.pac_outside.specs.Disk.{DiskHistory}
 use Rattle.pac_outside.specs.declared.failed.ReadError.{ReadError}
 use Rattle.pac_outside.specs.declared.failed.ReadError.TheVariants as read
 use Rattle.pac_outside.specs.declared.devices.Devices.{Devices}
-use Rattle.pac_types.specs.Typing.{CatalogueState}
-use Rattle.pac_types.specs.Accepted.{IsAccepted}
 use Rattle.pac_store.specs.Made.{IsInUse}
 use Rattle.pac_store.specs.declared.device.DeviceName.{DeviceName}
 use Rattle.pac_store.specs.declared.errors.MakeError.{MakeError}

@@ -1,7 +1,10 @@
 pub mod BatchLemmas
 pub mod InputLemmas
 pub mod StatusLemmas
+pub mod LogLemmas
+pub mod RecordingLemmas
 pub mod StopLemmas
+pub mod LayEndLemmas
 pub mod StressLemmas
 pub mod ExplainLemmas
 pub mod OneExplanation
@@ -12,3 +15,4 @@ pub mod RunLemmas
 pub mod IdleLemmas
 pub mod HistoryLemmas
 pub mod HeadlineLemmas
+pub mod AgreementLemmas

@@ -23,7 +23,7 @@ use Rattle.pac_main.specs.Recover.{IsDumpOfPrefix, IsRecovery, IsRefusedStore, R
 use Rattle.pac_main.specs.Stop.{line_of, status_of, stop_of_recover, takes_memory}
 use Rattle.pac_main.specs.Streams.{IsFaultless, IsOneOf, IsTaken, IsReported, Observed, ObservedDevices}
 use Rattle.pac_main.specs.declared.stop.Stop.{Stop}
-use Rattle.pac_main.specs.declared.stop.Stop.TheVariants.{Usage, Script as ScriptStop, NotEmpty, NoStore, Damaged, Aborted, RowsOver, InputFault, OutputFault, DiskFault, NoMemory, LogFull, TooLong, TooLarge}
+use Rattle.pac_main.specs.declared.stop.Stop.TheVariants.{Usage, Script as ScriptStop, NotEmpty, NoStore, Damaged, Aborted, RowsOver, InputFault, OutputFault, DiskFault, NoMemory, LogFull, TooLong, TooLarge, Image}
 use Rattle.pac_main.proofs.StatusLemmas.{ADeviceRefusal, aborted_of, device_of, disk_of, never_done, output_of, over_of}
 use Rattle.pac_main.proofs.StopLemmas.{Reported}
 
@@ -131,6 +131,7 @@ module _ (limit : ℕ) (devices : ObservedDevices) (sink errors : Observed) wher
   status TooLong h = absurd h
   status (LogFull need) h = absurd h
   status (TooLarge bytes) h = absurd h
+  status (Image fault) h = absurd h
 
   -- a device's refusal is reported
   refused : (stop : Stop) → ADeviceRefusal stop → IsUnrecovered limit devices sink stop → IsReported errors (line_of stop) → IsRefusedStore devices.before errors
@@ -162,6 +163,7 @@ module _ (limit : ℕ) (devices : ObservedDevices) (sink errors : Observed) wher
     complete TooLong h f none stays = absurd h
     complete (LogFull need) h f none stays = absurd h
     complete (TooLarge bytes) h f none stays = absurd h
+    complete (Image fault) h f none stays = absurd h
 
     stopped : (stop : Stop) → IsUnrecovered limit devices sink stop → IsPrefixUnrecovered limit catalogue history least sink stop → RecoversPrefix limit (status_of stop) catalogue history least devices sink
     stopped stop h f = record {
@@ -200,6 +202,7 @@ module _ (limit : ℕ) (devices : ObservedDevices) (sink errors : Observed) wher
   recovers known TooLong h catalogue history least f stays none = absurd h
   recovers known (LogFull need) h catalogue history least f stays none = absurd h
   recovers known (TooLarge bytes) h catalogue history least f stays none = absurd h
+  recovers known (Image fault) h catalogue history least f stays none = absurd h
 
   recovers_all : (stop : Stop) → RecoverStops limit devices sink stop → (text : List ℕ) (catalogue : CatalogueState) (history : List Txn) (least : ℕ)
       → IfImagesKnown (λ images. StandsFor text catalogue history least images → StoredInLimit limit images → IsFaultless devices sink → IsOneOf (status_of stop) (0 ∷ 9 ∷ [])) devices.before

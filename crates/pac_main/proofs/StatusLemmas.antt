@@ -4,9 +4,10 @@ use Rattle.pac_ops.specs.declared.note.Note.{Note}
 use Rattle.pac_script.specs.declared.script_fault.ScriptFault.{ScriptFault}
 use Rattle.pac_store.specs.declared.device.DeviceName.{DeviceName}
 use Rattle.pac_recover.specs.declared.errors.Damage.{Damage}
+use Rattle.pac_tuple.specs.declared.fault.ImageFault.{ImageFault}
 use Rattle.pac_main.specs.Stop.{status_of}
 use Rattle.pac_main.specs.declared.stop.Stop.{Stop}
-use Rattle.pac_main.specs.declared.stop.Stop.TheVariants.{Usage, Script as ScriptStop, NotEmpty, NoStore, Damaged, Aborted, RowsOver, InputFault, OutputFault, DiskFault, NoMemory, LogFull, TooLong, TooLarge}
+use Rattle.pac_main.specs.declared.stop.Stop.TheVariants.{Usage, Script as ScriptStop, NotEmpty, NoStore, Damaged, Aborted, RowsOver, InputFault, OutputFault, DiskFault, NoMemory, LogFull, TooLong, TooLarge, Image}
 
 pub record AnAbort (stop : Stop) : Type 0 where
   pub note : Note
@@ -15,6 +16,10 @@ pub record AnAbort (stop : Stop) : Type 0 where
 pub record ARefusal (stop : Stop) : Type 0 where
   pub fault : ScriptFault
   pub is : stop ≡ ScriptStop fault
+
+pub record AnImage (stop : Stop) : Type 0 where
+  pub fault : ImageFault
+  pub is : stop ≡ Image fault
 
 pub record AnOver (stop : Stop) : Type 0 where
   pub name : List ℕ
@@ -50,12 +55,12 @@ or_next P more (suc number) = more number
 
 -- what a stop of each status is, from 0 on
 abbrev IsOfStatus : Stop → ℕ → Type 0
-IsOfStatus s = or_next ⊥ (or_next (s ≡ Usage) (or_next (ARefusal s) (or_next (ADeviceRefusal s) (or_next (AnAbort s) (or_next (AnOver s) (or_next (s ≡ InputFault) (or_next (s ≡ OutputFault)
+IsOfStatus s = or_next ⊥ (or_next (s ≡ Usage) (or_next (ARefusal s ⊎ AnImage s) (or_next (ADeviceRefusal s) (or_next (AnAbort s) (or_next (AnOver s) (or_next (s ≡ InputFault) (or_next (s ≡ OutputFault)
     (or_next (s ≡ DiskFault) (or_next (s ≡ NoMemory) (or_next (AFullLog s) (or_next (s ≡ TooLong) (or_next (ALargeSlot s) (λ _. ⊥)))))))))))))
 
 of_its_status : (stop : Stop) → IsOfStatus stop (status_of stop)
 of_its_status Usage = refl
-of_its_status (ScriptStop fault) = record { fault = fault; is = refl }
+of_its_status (ScriptStop fault) = inl (record { fault = fault; is = refl })
 of_its_status (NotEmpty device length) = inl (record { device = device; length = length; is = refl })
 of_its_status NoStore = inr (inl refl)
 of_its_status (Damaged damage) = inr (inr (record { damage = damage; is = refl }))
@@ -68,6 +73,7 @@ of_its_status NoMemory = refl
 of_its_status (LogFull need) = record { need = need; is = refl }
 of_its_status TooLong = refl
 of_its_status (TooLarge bytes) = record { bytes = bytes; is = refl }
+of_its_status (Image fault) = inr (record { fault = fault; is = refl })
 
 module _ (stop : Stop) where
   of_status : (status : ℕ) → status_of stop ≡ status → IsOfStatus stop status
@@ -76,8 +82,16 @@ module _ (stop : Stop) where
   pub never_done : status_of stop ≡ 0 → ⊥
   never_done = of_status 0
 
-  pub refused_of : status_of stop ≡ 2 → ARefusal stop
-  refused_of = of_status 2
+  pub unread_of : status_of stop ≡ 2 → ARefusal stop ⊎ AnImage stop
+  unread_of = of_status 2
+
+  -- the same where a fault of after-images is no cause
+  pub refused_of : (P : Stop → Type 0) → ((fault : ImageFault) → P (Image fault) → ⊥) → P stop → status_of stop ≡ 2 → ARefusal stop
+  refused_of P none cause two = by (unread_of two)
+    where
+      by : ARefusal stop ⊎ AnImage stop → ARefusal stop
+      by (inl refusal) = refusal
+      by (inr image) = absurd (none image.fault (subst P image.is cause))
 
   pub device_of : status_of stop ≡ 3 → ADeviceRefusal stop
   device_of = of_status 3

@@ -22,13 +22,13 @@ use Rattle.pac_main.specs.Causes.{GivesNoScript, GivesNoExplanation, GivesNoText
 use Rattle.pac_main.specs.Explained.{ExplainEnds, IsTheCause, IsUnexplainedAs}
 use Rattle.pac_main.specs.Init.{AreUntouched, InitEnds, IsAcceptedInput, IsNoStoreFor, IsNoStoreText}
 use Rattle.pac_main.specs.Inputs.{IsAcceptedText}
-use Rattle.pac_main.specs.Replay.{EndsInLimit, IsAbortOf, IsLongScript, IsOverOf, IsReadAs, IsRefusedAs, IsScriptOf, ReplayEnds, first_over_in, outcome}
+use Rattle.pac_main.specs.Replay.{EndsInLimit, IsAbortOf, IsLongScript, IsOverOf, IsReadAs, IsRefusedAs, IsScriptOf, ScriptEnds, first_over_in, outcome}
 use Rattle.pac_main.specs.Stop.{line_of, status_of, stop_of_excess, stop_of_input, takes_memory, unaccepted_line}
 use Rattle.pac_main.specs.Streams.{AnyFaulted, IsFaultless, IsOneOf, IsReported, Observed, ObservedDevices}
 use Rattle.pac_main.specs.declared.input.InputError.{InputError}
 use Rattle.pac_main.specs.declared.input.InputError.TheVariants as input
 use Rattle.pac_main.specs.declared.stop.Stop.{Stop}
-use Rattle.pac_main.specs.declared.stop.Stop.TheVariants.{Usage, Script as ScriptStop, NotEmpty, NoStore, Damaged, Aborted, RowsOver, InputFault, OutputFault, DiskFault, NoMemory, LogFull, TooLong, TooLarge}
+use Rattle.pac_main.specs.declared.stop.Stop.TheVariants.{Usage, Script as ScriptStop, NotEmpty, NoStore, Damaged, Aborted, RowsOver, InputFault, OutputFault, DiskFault, NoMemory, LogFull, TooLong, TooLarge, Image}
 use Rattle.pac_main.proofs.InputLemmas.{some_is}
 use Rattle.pac_main.proofs.StatusLemmas.{ADeviceRefusal, AFullDevice, aborted_of, device_of, disk_of, input_of, long_of, never_done, output_of, over_of, refused_of}
 
@@ -43,14 +43,15 @@ reported_cause P stop reported (inr e) free h = subst P (sym e.0) free
 
 -- ---- `replay`
 
-module _ (limit : ℕ) (source sink : Observed) where
-  pub replay-input : (error : InputError) → GivesNoScript source error → ReplayStops limit source sink (stop_of_input error)
+-- `IsWritten` says of which text something holds: the dump, or the log
+module _ (limit : ℕ) (IsWritten : (List ℕ → Type 0) → Type 0) (source sink : Observed) where
+  pub replay-input : (error : InputError) → GivesNoScript source error → ReplayStops limit IsWritten source sink (stop_of_input error)
   replay-input input.Failed h = h
   replay-input input.TooLong h = h
   replay-input (input.Script fault) h = h
   replay-input input.NoMemory h = tt
 
-  pub replay-script : (script : Script) (stop : Stop) → IsScriptOf script source.before → ScriptStops limit script stop → ReplayStops limit source sink stop
+  pub replay-script : (script : Script) (stop : Stop) → IsScriptOf script source.before → ScriptStops limit script stop → ReplayStops limit IsWritten source sink stop
   replay-script script (Aborted note) is h = (script, is, h)
   replay-script script (RowsOver name rows most) is h = (record { script = script; tables = h.0.0; is = is; ends = h.0.1; over = h.0.2 }, h.1)
   replay-script script NoMemory is h = tt
@@ -65,8 +66,9 @@ module _ (limit : ℕ) (source sink : Observed) where
   replay-script script TooLong is h = absurd h
   replay-script script (LogFull need) is h = absurd h
   replay-script script (TooLarge bytes) is h = absurd h
+  replay-script script (Image fault) is h = absurd h
 
-  replay_status : (stop : Stop) → ReplayStops limit source sink stop → IsOneOf (status_of stop) (0 ∷ 2 ∷ 4 ∷ 5 ∷ 6 ∷ 7 ∷ 9 ∷ 11 ∷ [])
+  replay_status : (stop : Stop) → ReplayStops limit IsWritten source sink stop → IsOneOf (status_of stop) (0 ∷ 2 ∷ 4 ∷ 5 ∷ 6 ∷ 7 ∷ 9 ∷ 11 ∷ [])
   replay_status Usage h = absurd h
   replay_status (ScriptStop fault) h = refl
   replay_status (NotEmpty device length) h = absurd h
@@ -81,6 +83,7 @@ module _ (limit : ℕ) (source sink : Observed) where
   replay_status TooLong h = refl
   replay_status (LogFull need) h = absurd h
   replay_status (TooLarge bytes) h = absurd h
+  replay_status (Image fault) h = absurd h
 
   -- a script that is replayed to its end, within the limit
   module _ (text : List ℕ) (holds : EndsInLimit limit text) (is : source.before ≡ Some text) where
@@ -118,7 +121,7 @@ module _ (limit : ℕ) (source sink : Observed) where
     not_long : IsLongScript source.before → ⊥
     not_long long = let longer : MAX_INPUT < length text = subst (λ (o : Option (List ℕ)). IsLongScript o) is long in omega (arith, longer, holds.is.short)
 
-    replays : (stop : Stop) → ReplayStops limit source sink stop → (AnyFaulted source → ⊥) → (AnyFaulted sink → ⊥) → IsOneOf (status_of stop) (0 ∷ 9 ∷ [])
+    replays : (stop : Stop) → ReplayStops limit IsWritten source sink stop → (AnyFaulted source → ⊥) → (AnyFaulted sink → ⊥) → IsOneOf (status_of stop) (0 ∷ 9 ∷ [])
     replays (ScriptStop fault) h reads writes = absurd (no_fault fault h)
     replays (Aborted note) h reads writes = absurd (no_abort note h)
     replays (RowsOver name rows most) h reads writes = absurd (none_over name rows h.0)
@@ -133,36 +136,37 @@ module _ (limit : ℕ) (source sink : Observed) where
     replays DiskFault h reads writes = absurd h
     replays (LogFull need) h reads writes = absurd h
     replays (TooLarge bytes) h reads writes = absurd h
+    replays (Image fault) h reads writes = absurd h
 
-  replay_complete : (stop : Stop) → ReplayStops limit source sink stop → IsSomeAnd source.before (EndsInLimit limit) → (AnyFaulted source → ⊥) → (AnyFaulted sink → ⊥) → IsOneOf (status_of stop) (0 ∷ 9 ∷ [])
+  replay_complete : (stop : Stop) → ReplayStops limit IsWritten source sink stop → IsSomeAnd source.before (EndsInLimit limit) → (AnyFaulted source → ⊥) → (AnyFaulted sink → ⊥) → IsOneOf (status_of stop) (0 ∷ 9 ∷ [])
   replay_complete stop h given = let known = some_is (EndsInLimit limit) source.before given in replays known.0 known.2 known.1 stop h
 
-  ends_reported : (errors : Observed) (stop : Stop) → ReplayStops limit source sink stop → IsReported errors (line_of stop) → ReplayEnds limit (status_of stop) source sink errors
+  ends_reported : (errors : Observed) (stop : Stop) → ReplayStops limit IsWritten source sink stop → IsReported errors (line_of stop) → ScriptEnds limit IsWritten (status_of stop) source sink errors
   ends_reported errors stop cause line = record {
     statuses = replay_status stop cause;
     done = λ zero. absurd (never_done stop zero);
-    refused = λ two. let r = refused_of stop two in (r.fault, subst (ReplayStops limit source sink) r.is cause, subst (λ (s : Stop). IsReported errors (line_of s)) r.is line);
-    aborted = λ four. let a = aborted_of stop four in (a.note, subst (ReplayStops limit source sink) a.is cause, subst (λ (s : Stop). IsReported errors (line_of s)) a.is line);
+    refused = λ two. let r = refused_of stop (ReplayStops limit IsWritten source sink) (λ fault h. h) cause two in (r.fault, subst (ReplayStops limit IsWritten source sink) r.is cause, subst (λ (s : Stop). IsReported errors (line_of s)) r.is line);
+    aborted = λ four. let a = aborted_of stop four in (a.note, subst (ReplayStops limit IsWritten source sink) a.is cause, subst (λ (s : Stop). IsReported errors (line_of s)) a.is line);
     over_limit = λ five.
         let o = over_of stop five in
-        let why = subst (ReplayStops limit source sink) o.is cause in
+        let why = subst (ReplayStops limit IsWritten source sink) o.is cause in
         (o.name, o.rows, why.0, subst (λ (n : ℕ). IsReported errors (line_of (RowsOver o.name o.rows n))) why.1 (subst (λ (s : Stop). IsReported errors (line_of s)) o.is line));
-    input_fault = λ six. subst (ReplayStops limit source sink) (input_of stop six) cause;
-    output_fault = λ seven. subst (ReplayStops limit source sink) (output_of stop seven) cause;
-    too_long = λ eleven. subst (ReplayStops limit source sink) (long_of stop eleven) cause;
+    input_fault = λ six. subst (ReplayStops limit IsWritten source sink) (input_of stop six) cause;
+    output_fault = λ seven. subst (ReplayStops limit IsWritten source sink) (output_of stop seven) cause;
+    too_long = λ eleven. subst (ReplayStops limit IsWritten source sink) (long_of stop eleven) cause;
     complete = replay_complete stop cause;
   }
 
-  pub replay-ends : (errors : Observed) (stop reported : Stop) (status : ℕ) → status ≡ status_of reported → Reported stop reported → ReplayStops limit source sink stop → IsReported errors (line_of reported) → ReplayEnds limit status source sink errors
+  pub replay-ends : (errors : Observed) (stop reported : Stop) (status : ℕ) → status ≡ status_of reported → Reported stop reported → ReplayStops limit IsWritten source sink stop → IsReported errors (line_of reported) → ScriptEnds limit IsWritten status source sink errors
   replay-ends errors stop reported status is which cause line =
-      subst (λ (n : ℕ). ReplayEnds limit n source sink errors) (sym is) (ends_reported errors reported (reported_cause (ReplayStops limit source sink) stop reported which tt cause) line)
+      subst (λ (n : ℕ). ScriptEnds limit IsWritten n source sink errors) (sym is) (ends_reported errors reported (reported_cause (ReplayStops limit IsWritten source sink) stop reported which tt cause) line)
 
 -- a script whose tables are over the limit
 pub over-stops : (limit : ℕ) (script : Script) (tables : Tables) (excess : TooManyRows) → outcome script ≡ Ok tables → IsFirstOver limit script.catalogue.tables tables excess.table excess.rows → excess.limit ≡ limit → ScriptStops limit script (stop_of_excess excess)
 over-stops limit script tables excess ends over is = ((tables, ends, over), is)
 
 -- what is reported of a catalogue's text that isn't accepted
-unaccepted_as : (P : AcceptFault → Type 0) (errors : Observed) (fault : ScriptFault) → IsOfCatalogue P fault → IsReported errors (line_of (ScriptStop fault)) → (f : AcceptFault) × P f × IsReported errors (unaccepted_line f)
+pub unaccepted_as : (P : AcceptFault → Type 0) (errors : Observed) (fault : ScriptFault) → IsOfCatalogue P fault → IsReported errors (line_of (ScriptStop fault)) → (f : AcceptFault) × P f × IsReported errors (unaccepted_line f)
 unaccepted_as P errors (Unaccepted f) h line = (f, h, line)
 unaccepted_as P errors (Line number f) h line = absurd h
 
@@ -190,6 +194,7 @@ module _ (with_text : Bool) (source sink : Observed) where
   explain_status TooLong h = absurd h
   explain_status (LogFull need) h = absurd h
   explain_status (TooLarge bytes) h = absurd h
+  explain_status (Image fault) h = absurd h
 
   -- an accepted text is explained
   module _ (text : List ℕ) (accepted : IsAcceptedText text) (is : source.before ≡ Some text) where
@@ -211,6 +216,7 @@ module _ (with_text : Bool) (source sink : Observed) where
     explains TooLong h reads writes = absurd h
     explains (LogFull need) h reads writes = absurd h
     explains (TooLarge bytes) h reads writes = absurd h
+    explains (Image fault) h reads writes = absurd h
 
   explain_complete : (stop : Stop) → ExplainStops with_text source sink stop → IsSomeAnd source.before IsAcceptedText → (AnyFaulted source → ⊥) → (AnyFaulted sink → ⊥) → IsOneOf (status_of stop) (0 ∷ 9 ∷ [])
   explain_complete stop h given = let known = some_is IsAcceptedText source.before given in explains known.0 known.2 known.1 stop h
@@ -219,7 +225,7 @@ module _ (with_text : Bool) (source sink : Observed) where
   explained_reported errors stop cause line = record {
     statuses = explain_status stop cause;
     done = λ zero. absurd (never_done stop zero);
-    refused = λ two. let r = refused_of stop two in unaccepted_as (IsUnexplainedAs source.before) errors r.fault (subst (ExplainStops with_text source sink) r.is cause) (subst (λ (s : Stop). IsReported errors (line_of s)) r.is line);
+    refused = λ two. let r = refused_of stop (ExplainStops with_text source sink) (λ fault h. h) cause two in unaccepted_as (IsUnexplainedAs source.before) errors r.fault (subst (ExplainStops with_text source sink) r.is cause) (subst (λ (s : Stop). IsReported errors (line_of s)) r.is line);
     input_fault = λ six. subst (ExplainStops with_text source sink) (input_of stop six) cause;
     output_fault = λ seven. subst (ExplainStops with_text source sink) (output_of stop seven) cause;
     complete = explain_complete stop cause;
@@ -253,6 +259,7 @@ module _ (source : Observed) (devices : ObservedDevices) where
   init_status TooLong h = absurd h
   init_status (LogFull need) h = absurd h
   init_status (TooLarge bytes) h = absurd h
+  init_status (Image fault) h = absurd h
 
   init_untouched : (stop : Stop) → InitStops source devices stop → (status_of stop ≡ 8 → ⊥) → AreUntouched devices
   init_untouched (ScriptStop fault) h other = h.0
@@ -269,6 +276,7 @@ module _ (source : Observed) (devices : ObservedDevices) where
   init_untouched TooLong h other = absurd h
   init_untouched (LogFull need) h other = absurd h
   init_untouched (TooLarge bytes) h other = absurd h
+  init_untouched (Image fault) h other = absurd h
 
   init_accepted : (stop : Stop) → InitStops source devices stop → IsOneOf (status_of stop) (0 ∷ 3 ∷ 8 ∷ []) → IsAcceptedInput source.before
   init_accepted (ScriptStop fault) h early = let no : ◌≡◌ {A = Bool} false true = early in absurd cc
@@ -285,6 +293,7 @@ module _ (source : Observed) (devices : ObservedDevices) where
   init_accepted TooLong h early = absurd h
   init_accepted (LogFull need) h early = absurd h
   init_accepted (TooLarge bytes) h early = absurd h
+  init_accepted (Image fault) h early = absurd h
 
   full_device : (stop : Stop) → ADeviceRefusal stop → InitStops source devices stop → AFullDevice stop
   full_device stop (inl d) h = d
@@ -322,6 +331,7 @@ module _ (source : Observed) (devices : ObservedDevices) where
     makes TooLong h none = absurd h
     makes (LogFull need) h none = absurd h
     makes (TooLarge bytes) h none = absurd h
+    makes (Image fault) h none = absurd h
 
   init_complete : (stop : Stop) → InitStops source devices stop → IsSomeAnd source.before IsAcceptedText → IsSomeAnd (all_known devices.before) AreEmpty → IsFaultless devices source → IsOneOf (status_of stop) (0 ∷ 9 ∷ [])
   init_complete stop h given unused =
@@ -334,7 +344,7 @@ module _ (source : Observed) (devices : ObservedDevices) where
     statuses = init_status stop cause;
     accepted = init_accepted stop cause;
     done = λ zero. absurd (never_done stop zero);
-    refused = λ two. let r = refused_of stop two in unaccepted_as (IsNoStoreFor source.before) errors r.fault (subst (InitStops source devices) r.is cause).1 (subst (λ (s : Stop). IsReported errors (line_of s)) r.is line);
+    refused = λ two. let r = refused_of stop (InitStops source devices) (λ fault h. h) cause two in unaccepted_as (IsNoStoreFor source.before) errors r.fault (subst (InitStops source devices) r.is cause).1 (subst (λ (s : Stop). IsReported errors (line_of s)) r.is line);
     not_empty = λ three. let d = full_device stop (device_of stop three) cause in (d.device, d.length, (subst (InitStops source devices) d.is cause).2, subst (λ (s : Stop). IsReported errors (line_of s)) d.is line);
     input_fault = λ six. (subst (InitStops source devices) (input_of stop six) cause).1;
     disk_fault = λ eight. (subst (InitStops source devices) (disk_of stop eight) cause).1;
@@ -363,6 +373,7 @@ module _ (source : Observed) (devices : ObservedDevices) where
       no_disk TooLong memory eight = omega (arith, eight)
       no_disk (LogFull need) memory eight = omega (arith, eight)
       no_disk (TooLarge bytes) memory eight = omega (arith, eight)
+      no_disk (Image fault) memory eight = omega (arith, eight)
 
   pub init-ends : (errors : Observed) (stop reported : Stop) (status : ℕ) → status ≡ status_of reported → Reported stop reported → InitStops source devices stop → IsReported errors (line_of reported) → InitEnds status source errors devices
   init-ends errors stop reported status is which cause line =

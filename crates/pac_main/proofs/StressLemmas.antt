@@ -8,7 +8,7 @@ use Rattle.pac_main.specs.Stop.{status_of, stop_of_serial}
 use Rattle.pac_main.specs.Streams.{AnyFaulted, IsOneOf, Observed}
 use Rattle.pac_main.specs.Stress.{StressEnds}
 use Rattle.pac_main.specs.declared.stop.Stop.{Stop}
-use Rattle.pac_main.specs.declared.stop.Stop.TheVariants.{Usage, Script as ScriptStop, NotEmpty, NoStore, Damaged, Aborted, RowsOver, InputFault, OutputFault, DiskFault, NoMemory, LogFull, TooLong, TooLarge}
+use Rattle.pac_main.specs.declared.stop.Stop.TheVariants.{Usage, Script as ScriptStop, NotEmpty, NoStore, Damaged, Aborted, RowsOver, InputFault, OutputFault, DiskFault, NoMemory, LogFull, TooLong, TooLarge, Image}
 use Rattle.pac_main.proofs.StatusLemmas.{never_done, output_of}
 use Rattle.pac_main.proofs.StopLemmas.{Reported, reported_cause}
 
@@ -45,6 +45,7 @@ module _ (count : ℕ) (sink : Observed) where
   stress_status (LogFull need) h = absurd h
   stress_status TooLong h = absurd h
   stress_status (TooLarge bytes) h = absurd h
+  stress_status (Image fault) h = absurd h
 
   -- where no write failed, there was no memory
   only_memory : (stop : Stop) → StressStops count sink stop → (AnyFaulted sink → ⊥) → IsOneOf (status_of stop) (0 ∷ 9 ∷ [])
@@ -62,6 +63,7 @@ module _ (count : ℕ) (sink : Observed) where
   only_memory (LogFull need) h none = absurd h
   only_memory TooLong h none = absurd h
   only_memory (TooLarge bytes) h none = absurd h
+  only_memory (Image fault) h none = absurd h
 
   stressed_reported : (stop : Stop) → StressStops count sink stop → StressEnds count (status_of stop) sink
   stressed_reported stop cause = record {

@@ -5,6 +5,7 @@ use Rattle.pac_ops.specs.declared.transaction.Txn.{Txn}
 use Rattle.pac_outside.specs.Devices.{OneFaulted, IfAllKnown}
 use Rattle.pac_store.specs.Images.{IfImagesKnown}
 use Rattle.pac_store.specs.Made.{IsInUse}
+use Rattle.pac_types.specs.declared.table.Table.{Table}
 use Rattle.pac_types.specs.Typing.{CatalogueState}
 use Rattle.pac_store.specs.Stands.{StandsFor}
 use Rattle.pac_recover.specs.Limits.{IsFirstOver}
@@ -25,11 +26,22 @@ use Rattle.pac_main.specs.declared.stop.Stop.{Stop}
 use Rattle.pac_main.specs.declared.stop.Stop.TheVariants as stop
 use Rattle.pac_main.specs.Streams.{Observed, ObservedDevices, AnyFaulted, IsTaken, IsPrefixTaken}
 use Rattle.pac_main.specs.Init.{IsAcceptedInput, AreUntouched, IsNoStoreFor}
-use Rattle.pac_main.specs.Replay.{IsRefusedAs, IsLongScript, outcome, IsDumpOf, IsAbortOf, IsOverOf}
+use Rattle.pac_main.specs.Replay.{IsReadAs, IsRefusedAs, IsLongScript, outcome, IsAbortOf, IsOverOf}
+use Rattle.pac_main.specs.Lay.{IsFirstListFault, IsLaidDumpOf, IsLaidOverOf, IsNoLogFor, laid_tables}
+use Rattle.pac_main.specs.declared.image_log.ImageLog.{ImageLog}
+use Rattle.pac_main.specs.declared.image_log.LogFault.{LogFault}
+use Rattle.pac_main.specs.declared.image_log.LogFault.TheVariants as log
 use Rattle.pac_main.specs.Explained.{IsExplanationOf, IsUnexplainedAs}
 use Rattle.pac_main.specs.Recover.{IsDumpOfPrefix, IsRecovery}
 
 -- ---- `replay`
+
+-- an input that isn't read whole
+abbrev pub IsUnread : Observed → InputError → Type 0
+IsUnread source input.Failed = AnyFaulted source
+IsUnread source input.TooLong = IsLongScript source.before
+IsUnread source (input.Script fault) = ⊥
+IsUnread source input.NoMemory = Unit {0}
 
 -- an input that gives no script
 abbrev pub GivesNoScript : Observed → InputError → Type 0
@@ -38,6 +50,13 @@ GivesNoScript source input.TooLong = IsLongScript source.before
 GivesNoScript source (input.Script fault) = IsRefusedAs source.before fault
 GivesNoScript source input.NoMemory = Unit {0}
 
+-- a text that is no script
+abbrev pub IsNoScript : List ℕ → InputError → Type 0
+IsNoScript text input.Failed = ⊥
+IsNoScript text input.TooLong = ⊥
+IsNoScript text (input.Script fault) = IsReadAs text (Err fault)
+IsNoScript text input.NoMemory = Unit {0}
+
 -- a script whose transactions abort, end with tables over the limit, or find no memory
 abbrev pub ScriptStops : ℕ → Script → Stop → Type 0
 ScriptStops limit script (stop.Aborted note) = outcome script ≡ Err note
@@ -45,22 +64,52 @@ ScriptStops limit script (stop.RowsOver name rows most) = ((tables : Tables) × 
 ScriptStops limit script stop.NoMemory = Unit {0}
 ScriptStops limit script _ = ⊥
 
+-- the whole command, which writes a text; `IsWritten` says of which one something holds
+abbrev pub ReplayStops : ℕ → ((List ℕ → Type 0) → Type 0) → Observed → Observed → Stop → Type 0
+ReplayStops limit IsWritten source sink stop.Usage = ⊥
+ReplayStops limit IsWritten source sink (stop.Script fault) = IsRefusedAs source.before fault
+ReplayStops limit IsWritten source sink (stop.NotEmpty device length) = ⊥
+ReplayStops limit IsWritten source sink stop.NoStore = ⊥
+ReplayStops limit IsWritten source sink (stop.Damaged damage) = ⊥
+ReplayStops limit IsWritten source sink (stop.Aborted note) = IsAbortOf source.before note
+ReplayStops limit IsWritten source sink (stop.RowsOver name rows most) = IsOverOf limit source.before name rows × (most ≡ limit)
+ReplayStops limit IsWritten source sink stop.InputFault = AnyFaulted source
+ReplayStops limit IsWritten source sink stop.OutputFault = AnyFaulted sink × IsWritten (IsPrefixTaken sink)
+ReplayStops limit IsWritten source sink stop.DiskFault = ⊥
+ReplayStops limit IsWritten source sink stop.NoMemory = Unit {0}
+ReplayStops limit IsWritten source sink (stop.LogFull need) = ⊥
+ReplayStops limit IsWritten source sink stop.TooLong = IsLongScript source.before
+ReplayStops limit IsWritten source sink (stop.TooLarge bytes) = ⊥
+ReplayStops limit IsWritten source sink (stop.Image fault) = ⊥
+
+-- ---- `lay`
+
+-- a fault of a catalogue's text, with this property
+abbrev pub IsOfCatalogue : (AcceptFault → Type 0) → ScriptFault → Type 0
+IsOfCatalogue P (Unaccepted fault) = P fault
+IsOfCatalogue P (Line number fault) = ⊥
+
+-- the bytes have this first fault of lists
+abbrev pub IsListFault : List Table → List ℕ → LogFault → Type 0
+IsListFault tables bytes (log.Unaccepted fault) = ⊥
+IsListFault tables bytes (log.Image fault) = IsFirstListFault tables bytes fault
+
+-- a log whose tables are over the limit, or find no memory
+abbrev pub LayingStops : ℕ → ImageLog → Stop → Type 0
+LayingStops limit laid (stop.RowsOver name rows most) = IsFirstOver limit laid.catalogue.tables (laid_tables laid) name rows × (most ≡ limit)
+LayingStops limit laid stop.NoMemory = Unit {0}
+LayingStops limit laid _ = ⊥
+
 -- the whole command
-abbrev pub ReplayStops : ℕ → Observed → Observed → Stop → Type 0
-ReplayStops limit source sink stop.Usage = ⊥
-ReplayStops limit source sink (stop.Script fault) = IsRefusedAs source.before fault
-ReplayStops limit source sink (stop.NotEmpty device length) = ⊥
-ReplayStops limit source sink stop.NoStore = ⊥
-ReplayStops limit source sink (stop.Damaged damage) = ⊥
-ReplayStops limit source sink (stop.Aborted note) = IsAbortOf source.before note
-ReplayStops limit source sink (stop.RowsOver name rows most) = IsOverOf limit source.before name rows × (most ≡ limit)
-ReplayStops limit source sink stop.InputFault = AnyFaulted source
-ReplayStops limit source sink stop.OutputFault = AnyFaulted sink × IsDumpOf limit source.before (IsPrefixTaken sink)
-ReplayStops limit source sink stop.DiskFault = ⊥
-ReplayStops limit source sink stop.NoMemory = Unit {0}
-ReplayStops limit source sink (stop.LogFull need) = ⊥
-ReplayStops limit source sink stop.TooLong = IsLongScript source.before
-ReplayStops limit source sink (stop.TooLarge bytes) = ⊥
+abbrev pub LayStops : ℕ → Observed → Observed → Stop → Type 0
+LayStops limit source sink (stop.Script fault) = IsOfCatalogue (λ f. IsNoLogFor source.before (log.Unaccepted f)) fault
+LayStops limit source sink (stop.Image fault) = IsNoLogFor source.before (log.Image fault)
+LayStops limit source sink (stop.RowsOver name rows most) = IsLaidOverOf limit source.before name rows × (most ≡ limit)
+LayStops limit source sink stop.InputFault = AnyFaulted source
+LayStops limit source sink stop.OutputFault = AnyFaulted sink × IsLaidDumpOf limit source.before (IsPrefixTaken sink)
+LayStops limit source sink stop.NoMemory = Unit {0}
+LayStops limit source sink stop.TooLong = IsLongScript source.before
+LayStops limit source sink _ = ⊥
 
 -- ---- `stress`
 
@@ -71,11 +120,6 @@ StressStops count sink stop.NoMemory = Unit {0}
 StressStops count sink _ = ⊥
 
 -- ---- `explain`
-
--- a fault of a catalogue's text, with this property
-abbrev pub IsOfCatalogue : (AcceptFault → Type 0) → ScriptFault → Type 0
-IsOfCatalogue P (Unaccepted fault) = P fault
-IsOfCatalogue P (Line number fault) = ⊥
 
 -- an input whose catalogue isn't explained
 abbrev pub GivesNoExplanation : Observed → InputError → Type 0

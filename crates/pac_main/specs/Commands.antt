@@ -1,9 +1,9 @@
 -- What the arguments of the command line say is to be done, and which commands run.
-use Rattle.std.specs.Prelude.{◌≡◌, ℕ, List, map, Option, Some, IsSomeAnd, Bool, String, string_bytes}
+use Rattle.std.specs.Prelude.{◌≡◌, ℕ, List, map, Option, Some, IsSomeAnd, Bool, true, false, String, string_bytes}
 use Rattle.std.specs.Global.{Global}
 use Rattle.pac_arguments.specs.Commands.{command_of}
 use Rattle.pac_arguments.specs.declared.command.Command.{Command}
-use Rattle.pac_arguments.specs.declared.command.Command.TheVariants.{Init, Run, Recover, Explain, Replay, Stress}
+use Rattle.pac_arguments.specs.declared.command.Command.TheVariants.{Init, Run, Recover, Explain, Replay, Stress, Lay}
 
 -- what the arguments say is to be done, if they are a command
 abbrev pub command_in : List (String Global) → Option Command
@@ -37,9 +37,17 @@ IsExplain arguments with_text = command_in arguments ≡ Some (Explain with_text
 abbrev pub AsksExplain : List (String Global) → Type 0
 AsksExplain arguments = (with_text : Bool) × IsExplain arguments with_text
 
--- the arguments are `replay`, with this limit on the rows of a table and any number of workers
+-- the arguments are `replay` without `--images`, with this limit on the rows of a table and any number of workers
 abbrev pub IsReplay : List (String Global) → ℕ → Type 0
-IsReplay arguments limit = (workers : ℕ) × (command_in arguments ≡ Some (Replay workers limit))
+IsReplay arguments limit = (workers : ℕ) × (command_in arguments ≡ Some (Replay workers limit false))
+
+-- the arguments are `replay --images`, with this limit on the rows of a table and any number of workers
+abbrev pub IsRecording : List (String Global) → ℕ → Type 0
+IsRecording arguments limit = (workers : ℕ) × (command_in arguments ≡ Some (Replay workers limit true))
+
+-- the arguments are `lay`, with this limit on the rows of a table and any number of workers
+abbrev pub IsLay : List (String Global) → ℕ → Type 0
+IsLay arguments limit = (workers : ℕ) × (command_in arguments ≡ Some (Lay workers limit))
 
 -- the arguments are `stress`, with this number of transactions and any number of workers
 abbrev pub IsStress : List (String Global) → ℕ → Type 0
@@ -55,8 +63,9 @@ Runs Init = Unit {0}
 Runs (Run group_size limit) = Unit {0}
 Runs (Recover workers limit) = Unit {0}
 Runs (Explain with_text) = Unit {0}
-Runs (Replay workers limit) = Unit {0}
+Runs (Replay workers limit images) = Unit {0}
 Runs (Stress count workers) = Unit {0}
+Runs (Lay workers limit) = Unit {0}
 
 -- the arguments name a command that runs
 abbrev pub NamesCommand : List (String Global) → Type 0

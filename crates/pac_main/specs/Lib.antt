@@ -3,6 +3,8 @@ pub mod Streams
 pub mod Stop
 pub mod Commands
 pub mod Replay
+pub mod Record
+pub mod Lay
 pub mod Stress
 pub mod Run
 pub mod Headline

@@ -89,15 +89,20 @@ pub record EndsInLimit (limit : ℕ) (text : List ℕ) : Type 0 where
   pub ends : outcome script ≡ Ok tables
   pub within : first_over_in limit script tables ≡ None
 
--- how `replay` ends under a limit of rows: the statuses that it may have, and a line for each that has a cause
-pub record ReplayEnds (limit status : ℕ) (input output errors : Observed) : Type 0 where
+-- how a command ends that executes a script under a limit of rows and writes a text, of which `IsWritten` says whether something
+-- holds: the statuses that it may have, and a line for each that has a cause
+pub record ScriptEnds (limit : ℕ) (IsWritten : (List ℕ → Type 0) → Type 0) (status : ℕ) (input output errors : Observed) : Type 0 where
   pub statuses : IsOneOf status (0 ∷ 2 ∷ 4 ∷ 5 ∷ 6 ∷ 7 ∷ 9 ∷ 11 ∷ [])
-  pub done : status ≡ 0 → IsDumpOf limit input.before (IsTaken output)
+  pub done : status ≡ 0 → IsWritten (IsTaken output)
   pub refused : status ≡ 2 → (fault : ScriptFault) × IsRefusedAs input.before fault × IsReported errors (line_of (stop.Script fault))
   pub aborted : status ≡ 4 → (note : Note) × IsAbortOf input.before note × IsReported errors (abort_line note)
   pub over_limit : status ≡ 5 → (name : List ℕ) × (rows : ℕ) × IsOverOf limit input.before name rows × IsReported errors (rows_line name rows limit)
   pub input_fault : status ≡ 6 → AnyFaulted input
-  pub output_fault : status ≡ 7 → AnyFaulted output × IsDumpOf limit input.before (IsPrefixTaken output)
+  pub output_fault : status ≡ 7 → AnyFaulted output × IsWritten (IsPrefixTaken output)
   pub too_long : status ≡ 11 → IsLongScript input.before
-  -- such a script is replayed, where no fault was counted, or there was no memory
+  -- such a script is executed, where no fault was counted, or there was no memory
   pub complete : IsSomeAnd input.before (EndsInLimit limit) → ¬ AnyFaulted input → ¬ AnyFaulted output → IsOneOf status (0 ∷ 9 ∷ [])
+
+-- how `replay` ends without `--images`: it writes the dump
+abbrev pub ReplayEnds : ℕ → ℕ → Observed → Observed → Observed → Type 0
+ReplayEnds limit status input output errors = ScriptEnds limit (IsDumpOf limit input.before) status input output errors

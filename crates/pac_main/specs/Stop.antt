@@ -30,11 +30,17 @@ use Rattle.pac_recover.specs.declared.errors.RecoverError.TheVariants as recover
 use Rattle.pac_recover.specs.declared.limit.TooManyRows.{TooManyRows}
 use Rattle.pac_run.specs.declared.stop.RunStop.{RunStop}
 use Rattle.pac_run.specs.declared.stop.RunStop.TheVariants as run
-use Rattle.pac_report.specs.Status.{abort_words, as_line, catalogue_words, damage_words, full_words, not_empty_words, operations_words, rows_words, script_words, too_large_words}
+use Rattle.pac_report.specs.Status.{abort_words, as_line, catalogue_words, damage_words, full_words, image_words, not_empty_words, operations_words, rows_words, script_words, too_large_words}
+use Rattle.pac_base.specs.declared.refusal.Refusal.{Refusal}
+use Rattle.pac_base.specs.declared.refusal.Refusal.TheVariants as refusal
+use Rattle.pac_tuple.specs.Kinds.{image_kind_name}
+use Rattle.pac_tuple.specs.declared.fault.ImageFault.{ImageFault}
+use Rattle.pac_main.specs.declared.image_log.LogFault.{LogFault}
+use Rattle.pac_main.specs.declared.image_log.LogFault.TheVariants as log
 use Rattle.pac_main.specs.declared.input.InputError.{InputError}
 use Rattle.pac_main.specs.declared.input.InputError.TheVariants as input
 use Rattle.pac_main.specs.declared.stop.Stop.{Stop}
-use Rattle.pac_main.specs.declared.stop.Stop.TheVariants.{Usage, Script, NotEmpty, NoStore, Damaged, Aborted, RowsOver, InputFault, OutputFault, DiskFault, NoMemory, LogFull, TooLong, TooLarge}
+use Rattle.pac_main.specs.declared.stop.Stop.TheVariants.{Usage, Script, NotEmpty, NoStore, Damaged, Aborted, RowsOver, InputFault, OutputFault, DiskFault, NoMemory, LogFull, TooLong, TooLarge, Image}
 use Rattle.pac_main.specs.declared.reporting.ArgumentsError.{ArgumentsError}
 use Rattle.pac_main.specs.declared.reporting.ArgumentsError.TheVariants as arguments
 
@@ -54,6 +60,7 @@ status_of NoMemory = 9
 status_of (LogFull need) = 10
 status_of TooLong = 11
 status_of (TooLarge bytes) = 12
+status_of (Image fault) = 2
 
 -- the transaction's number, the operation's, and the reason
 abbrev pub abort_line : Note → List ℕ
@@ -101,6 +108,10 @@ full_line need = as_line (full_words need)
 abbrev pub too_large_line : ℕ → List ℕ
 too_large_line bytes = as_line (too_large_words bytes)
 
+-- the offset of the first fault of after-images, and its kind
+abbrev pub image_line : ImageFault → List ℕ
+image_line fault = as_line (image_words fault.at (image_kind_name fault.kind))
+
 -- whether a stop's line has numbers, and is made
 abbrev pub takes_memory : Stop → Bool
 takes_memory (Script fault) = true
@@ -110,6 +121,7 @@ takes_memory (Aborted note) = true
 takes_memory (RowsOver name rows limit) = true
 takes_memory (LogFull need) = true
 takes_memory (TooLarge bytes) = true
+takes_memory (Image fault) = true
 takes_memory _ = false
 
 -- the first fault of the catalogue that is refused, or too many operations
@@ -124,7 +136,7 @@ script_fault_line (Line number fault) = script_line number fault
 
 -- the line that is reported for a stop
 abbrev pub line_of : Stop → List ℕ
-line_of Usage = as_line (codes "usage: pacman init, run, recover, explain, replay or stress")
+line_of Usage = as_line (codes "usage: pacman init, run, recover, explain, replay, stress or lay")
 line_of (Script fault) = script_fault_line fault
 line_of (NotEmpty device length) = not_empty_line device length
 line_of NoStore = as_line (codes "no store")
@@ -138,6 +150,13 @@ line_of NoMemory = as_line (codes "no memory")
 line_of (LogFull need) = full_line need
 line_of TooLong = as_line (codes "input too long")
 line_of (TooLarge bytes) = too_large_line bytes
+line_of (Image fault) = image_line fault
+
+-- a text that is no log stops with its first fault
+abbrev pub stop_of_log : Refusal LogFault → Stop
+stop_of_log (refusal.Fault (log.Unaccepted fault)) = Script (Unaccepted fault)
+stop_of_log (refusal.Fault (log.Image fault)) = Image fault
+stop_of_log refusal.NoMemory = NoMemory
 
 -- arguments that can't be read are no command's, or there was no memory for them
 abbrev pub stop_of_arguments : ArgumentsError → Stop

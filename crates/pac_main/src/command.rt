@@ -1,9 +1,11 @@
 // The commands, by the arguments of the command line.
 ghost use Rattle.std.specs.Prelude.{◌≡◌, ◌≢◌, ◌↔◌, ◌∷◌, ℕ, [], Bool, ◌+◌};
 ghost use Rattle.pac_outside.specs.Content.{GaveAtMost};
-ghost use Rattle.pac_main.specs.Commands.{AsksExplain, AsksRecover, AsksRun, AsksStress, IsExplain, IsInit, IsRecover, IsReplay, IsRunOf, IsStress, NamesCommand};
+ghost use Rattle.pac_main.specs.Commands.{AsksExplain, AsksRecover, AsksRun, AsksStress, IsExplain, IsInit, IsLay, IsRecording, IsRecover, IsReplay, IsRunOf, IsStress, NamesCommand};
 ghost use Rattle.pac_main.specs.Explained.{ExplainEnds};
 ghost use Rattle.pac_main.specs.Init.{InitEnds};
+ghost use Rattle.pac_main.specs.Lay.{LayEnds};
+ghost use Rattle.pac_main.specs.Record.{RecordEnds};
 ghost use Rattle.pac_main.specs.Recover.{RecoverEnds};
 ghost use Rattle.pac_main.specs.Replay.{ReplayEnds};
 ghost use Rattle.pac_main.specs.Run.{RunEnds};
@@ -16,6 +18,8 @@ ghost use Rattle.pac_syntax.specs.declared.limits.TheConstants.{MAX_CATALOGUE};
 
 use crate::explain::explain_input;
 use crate::init::init_input;
+use crate::laying::lay_input;
+use crate::recording::record_input;
 use crate::recover::recover_devices;
 use crate::replay::replay_input;
 use crate::reporting::{ArgumentsError, refuse_arguments};
@@ -34,6 +38,12 @@ use std::thread::Threads;
 ///   transactions by N workers, from 1 to 64, or 4, from no rows on, and writes the tables where none has more rows than
 ///   `--rows` says, or 1,000,000. What it writes doesn't depend on the workers: it is what serial execution gives. Time is near
 ///   linear in the script and in the operations that its transactions execute.
+/// - `replay --images` goes through the same checks, and executes the transactions by one worker. In place of the tables it writes
+///   the log of their after-images: the script up to its line `---` and that line's line feed, and then a list for each
+///   transaction. A script without that line is written as it is. `lay` reads what it writes.
+/// - `lay [--workers N] [--rows N]` reads such a log from the input, to its end or to 67,108,865 bytes, lays its lists over tables
+///   without rows by N workers, from 1 to 64, or 4, and writes the tables where none has more rows than `--rows` says, or
+///   1,000,000. It executes no procedure. What it writes doesn't depend on the workers.
 /// - `explain` and `explain --text` do what [`crate::explain_command`] says.
 /// - `init` does what [`crate::init_command`] says.
 /// - `recover [--workers N] [--rows N]` reads the devices, executes the stored transactions after the newest slot over that
@@ -49,7 +59,7 @@ use std::thread::Threads;
 /// | status | comes | the error sink takes |
 /// |---|---|---|
 /// | 0 | else: the output took the dump of a replay or a recovery, or the explanation, or the summary, or all replies of a run; or the store is there | nothing |
-/// | 1 | exactly where the arguments name no command, unless there was no memory to read them | `usage: pacman init, run, recover, explain, replay or stress` |
+/// | 1 | exactly where the arguments name no command, unless there was no memory to read them | `usage: pacman init, run, recover, explain, replay, stress or lay` |
 /// | 2 | only where the input is no script, or its catalogue is refused | its first fault: `catalogue AT KIND` where the catalogue's text isn't read, or isn't typed; `operations PROC COUNT` where its operations are too many: the first procedure at which they are, and how many; else, of `replay` alone, `script LINE AT KIND`: the first line that is refused, from 1 on, and its fault |
 /// | 3 | only where a device of a store that is to be made has a byte; the first of the log, slot a and slot b | `not empty DEVICE LENGTH` |
 /// | 3 | only where the log of a store that is to be recovered or run doesn't begin as one | `no store` |
@@ -88,6 +98,10 @@ pub fn pacman<RT: Threads + Wait + Sync, I: Source, O: Sink, E: Sink, D: Disk, G
         (observed_devices D.known D.faults devices.old devices.new) (observed O.held O.faults output.old output.new) (observed E.held E.faults errors.old errors.new) }
     ensures replay { (limit : ℕ) → IsReplay arguments.now limit → ReplayEnds limit result
         (observed I.left I.faults input.old input.new) (observed O.held O.faults output.old output.new) (observed E.held E.faults errors.old errors.new) }
+    ensures recording { (limit : ℕ) → IsRecording arguments.now limit → RecordEnds limit result
+        (observed I.left I.faults input.old input.new) (observed O.held O.faults output.old output.new) (observed E.held E.faults errors.old errors.new) }
+    ensures lay { (limit : ℕ) → IsLay arguments.now limit → LayEnds limit result
+        (observed I.left I.faults input.old input.new) (observed O.held O.faults output.old output.new) (observed E.held E.faults errors.old errors.new) }
     ensures stress { (count : ℕ) → IsStress arguments.now count → StressEnds count result (observed O.held O.faults output.old output.new) }
     ensures explain { (with_text : Bool) → IsExplain arguments.now with_text → ExplainEnds with_text result
         (observed I.left I.faults input.old input.new) (observed O.held O.faults output.old output.new) (observed E.held E.faults errors.old errors.new) }
@@ -119,8 +133,23 @@ pub fn pacman<RT: Threads + Wait + Sync, I: Source, O: Sink, E: Sink, D: Disk, G
             recover_devices(rt, alloc, workers, rows, output, errors, devices, gate)
         }
         Ok(Some(Command::Explain { text })) => explain_input(alloc, text, input, output, errors),
-        Ok(Some(Command::Replay { workers, rows })) => {
-            replay_input(rt, alloc, workers, rows, input, output, errors, gate)
+        Ok(
+            Some(
+                Command::Replay {
+                    workers,
+                    rows,
+                    images,
+                },
+            ),
+        ) => {
+            if images {
+                record_input(alloc, rows, input, output, errors)
+            } else {
+                replay_input(rt, alloc, workers, rows, input, output, errors, gate)
+            }
+        }
+        Ok(Some(Command::Lay { workers, rows })) => {
+            lay_input(rt, alloc, workers, rows, input, output, errors)
         }
         Ok(Some(Command::Stress { count, workers })) => {
             stress_output(rt, alloc, workers, count, output, errors, gate)

@@ -1,5 +1,5 @@
 // Laws over whole runs. Each is a function without code.
-ghost use Rattle.std.specs.Prelude.{◌≡◌, ℕ, List, Some};
+ghost use Rattle.std.specs.Prelude.{◌≡◌, ◌≤◌, ℕ, List, length, Some};
 ghost use Rattle.pac_ops.specs.declared.transaction.Txn.{Txn as ATxn};
 ghost use Rattle.pac_outside.specs.Devices.{AreImages, all_known};
 ghost use Rattle.pac_outside.specs.Disk.{DiskHistory};
@@ -10,8 +10,12 @@ ghost use Rattle.pac_run.specs.Opening.{AllStand};
 ghost use Rattle.pac_main.specs.Headline.{AreAsLeft, AreFound, AreRuns, HoldImages, KeepsAll, Life, OneRun, RecoversExactly};
 ghost use Rattle.pac_main.specs.Histories.{StandsForNone};
 ghost use Rattle.pac_main.specs.Init.{InitEnds};
+ghost use Rattle.pac_main.specs.Lay.{IsLaidDumpOf, IsLaidInLimit};
+ghost use Rattle.pac_main.specs.Record.{IsLogOf};
 ghost use Rattle.pac_main.specs.Recover.{Recovery, RecoversPrefix};
+ghost use Rattle.pac_main.specs.Replay.{IsDumpOf};
 ghost use Rattle.pac_main.specs.Streams.{Observed, ObservedDevices};
+ghost use Rattle.pac_run.specs.declared.limits.TheConstants.{MAX_INPUT};
 
 /// **Recovery is exact.** A store was made; any runs went over it, one after another, each begun on what a crash or a kill left of
 /// the one before, at whatever moment it stopped; and then a recovery ended. It has written the dump of the tables that serial
@@ -51,4 +55,13 @@ pub fn recover_gives_what_is_acknowledged()
 pub fn cuts_and_kills_are_found()
     ensures cut { (left found : ADevices DiskHistory) (images : ADevices (List ℕ)) → AreImages left images → HoldImages images found → AreFound left found }
     ensures kill { (left found : ADevices DiskHistory) → AreImages left (reads_of left) → AreAsLeft left found → AreFound left found }
+{}
+
+/// The two logs give the same tables. What `replay --images` writes of a script, where it has at most 67,108,864 bytes, is a log
+/// whose tables are within the limit of rows, which [`pacman`](crate::pacman)'s `lay` lays; and the dump that `lay` writes of
+/// it is the one that `replay` writes of the script.
+pub fn a_log_gives_the_dump_of_its_script()
+    ensures laid { (limit : ℕ) (text log : List ℕ) → IsLogOf limit (Some text) (λ written. written ≡ log) → length log ≤ MAX_INPUT → IsLaidInLimit limit log }
+    ensures same { (limit : ℕ) (text log laid replayed : List ℕ) → IsLogOf limit (Some text) (λ written. written ≡ log)
+        → IsLaidDumpOf limit (Some log) (λ written. written ≡ laid) → IsDumpOf limit (Some text) (λ written. written ≡ replayed) → laid ≡ replayed }
 {}

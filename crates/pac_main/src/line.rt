@@ -103,5 +103,9 @@ pub(crate) fn status_line(stop: &Stop) -> StatusLine<'_>
         Stop::LogFull { need } => StatusLine::LogFull { need: *need },
         Stop::TooLong => StatusLine::InputTooLong,
         Stop::TooLarge { bytes } => StatusLine::TooLarge { bytes: *bytes },
+        Stop::Image(fault) => StatusLine::Image {
+            at: fault.at as u64,
+            kind: fault.kind.name(),
+        },
     }
 }

@@ -3,10 +3,10 @@ ghost use Rattle.std.specs.Prelude.{◌≡◌, ◌≢◌, ◌≤◌, ◌+◌, No
 ghost use Rattle.pac_outside.specs.Content.{GaveAtMost};
 ghost use Rattle.pac_types.specs.OperationLimits.{HasFewOperations};
 ghost use Rattle.pac_script.specs.BatchFits.{BatchesFit, BatchesHaveNumbers};
-ghost use Rattle.pac_main.specs.Causes.{GivesNoScript, ReplayStops, ScriptStops};
+ghost use Rattle.pac_main.specs.Causes.{GivesNoScript, IsNoScript, IsUnread, ReplayStops, ScriptStops};
 ghost use Rattle.pac_recover.specs.Gates.{RunOn};
 ghost use Rattle.pac_run.specs.declared.limits.TheConstants.{MAX_INPUT};
-ghost use Rattle.pac_main.specs.Replay.{IsDumpOf, IsScriptOf, IsLongScript, ReplayEnds, first_over_in, outcome};
+ghost use Rattle.pac_main.specs.Replay.{IsDumpOf, IsReadAs, IsScriptOf, IsLongScript, ReplayEnds, first_over_in, outcome};
 ghost use Rattle.pac_main.specs.Stop.{line_of, status_of};
 ghost use Rattle.pac_main.specs.Streams.{IsTaken, IsReported, observed};
 ghost use Rattle.pac_main.specs.declared.stop.Stop.{Stop as AStop};
@@ -26,11 +26,11 @@ use std::alloc::Global;
 use std::sync::Wait;
 use std::thread::Threads;
 
-// All that the source holds.
-fn read_whole<I: Source>(alloc: Global, input: &mut I) -> Result<Vec<u8>, InputError>
+/// All that the source holds.
+pub(crate) fn read_whole<I: Source>(alloc: Global, input: &mut I) -> Result<Vec<u8>, InputError>
     ensures whole { IfOk result (λ text. IfSome (I.left input.old) (λ all. all ≡ text.items)) }
     ensures short { IfOk result (λ text. length text.items ≤ MAX_INPUT) }
-    ensures stops { IfErr result (GivesNoScript (observed I.left I.faults input.old input.new)) }
+    ensures stops { IfErr result (IsUnread (observed I.left I.faults input.old input.new)) }
     ensures taken { GaveAtMost (MAX_INPUT + 1) (I.left input.old) (I.left input.new) }
 {
     let most = MAX_INPUT as usize;
@@ -52,7 +52,20 @@ fn read_input<I: Source>(alloc: Global, input: &mut I) -> Result<Script, InputEr
     ensures taken { GaveAtMost (MAX_INPUT + 1) (I.left input.old) (I.left input.new) }
 {
     let text = read_whole(alloc, input)?;
-    Ok(read_script(alloc, &text)?)
+    script_in(alloc, &text)
+}
+
+/// The script that a text is.
+pub(crate) fn script_in(alloc: Global, text: &[u8]) -> Result<Script, InputError>
+    requires short { length text.now ≤ MAX_INPUT }
+    ensures ok { IfOk result (λ script. IsReadAs text.now (Ok script)) }
+    ensures operations { IfOk result (λ script. HasFewOperations script.catalogue.procs) }
+    ensures fit { IfOk result (λ script. BatchesFit script.catalogue script.batches) }
+    ensures small { IfOk result (λ script. BatchesHaveNumbers script.batches) }
+    ensures runs { IfOk result (λ script. RunOn 0 script.batches) }
+    ensures stops { IfErr result (IsNoScript text.now) }
+{
+    Ok(read_script(alloc, text)?)
 }
 
 // The catalogue of a script, and the tables with which its transactions end, where these are within the limit.
@@ -93,7 +106,7 @@ fn replay<H: Threads + Wait + Sync, I: Source, O: Sink, G: Gate + Sync>(
 ) -> Result<(), Stop>
     requires workers { 1 ≤ workers }
     ensures done { OnOk result (IsDumpOf limit (I.left input.old) (IsTaken (observed O.held O.faults output.old output.new))) }
-    ensures stops { IfErr result (ReplayStops limit (observed I.left I.faults input.old input.new) (observed O.held O.faults output.old output.new)) }
+    ensures stops { IfErr result (ReplayStops limit (IsDumpOf limit (I.left input.old)) (observed I.left I.faults input.old input.new) (observed O.held O.faults output.old output.new)) }
     ensures kept { IfErr result (λ stop. stop ≢ Stop.OutputFault → output.new ≡ output.old) }
     ensures taken { GaveAtMost (MAX_INPUT + 1) (I.left input.old) (I.left input.new) }
 {

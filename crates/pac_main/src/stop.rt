@@ -1,10 +1,11 @@
 // Why a command stops before its end.
 ghost use Rattle.std.specs.Prelude.{◌≡◌};
-ghost use Rattle.pac_main.specs.Stop.{status_of, takes_memory, stop_of_excess, stop_of_input, stop_of_load, stop_of_make, stop_of_recover, stop_of_run, stop_of_serial};
+ghost use Rattle.pac_main.specs.Stop.{status_of, takes_memory, stop_of_excess, stop_of_input, stop_of_load, stop_of_log, stop_of_make, stop_of_recover, stop_of_run, stop_of_serial};
 ghost use Rattle.pac_main.specs.declared.stop.Stop.TheVariants.{OutputFault, NoMemory as OutOfMemory};
 
+use crate::image_log::{ImageLogError, LogFault};
 use crate::input::InputError;
-use pac_base::NoMemory;
+use pac_base::{NoMemory, Refusal};
 use pac_ops::Note;
 use pac_outside::Failed;
 use pac_recover::{Damage, LoadError, RecoverError, TooManyRows};
@@ -12,6 +13,7 @@ use pac_run::RunStop;
 use pac_script::ScriptFault;
 use pac_serial::AllError;
 use pac_store::{DeviceName, MakeError};
+use pac_tuple::ImageFault;
 use pac_value::Name;
 
 /// Why a command stops before its end.
@@ -45,6 +47,8 @@ pub(crate) enum Stop {
     TooLong,
     /// A checkpoint's slot would have that many bytes, and has no room for them.
     TooLarge { bytes: u64 },
+    /// What stands behind the catalogue is no log of after-images.
+    Image(ImageFault),
 }
 
 impl From<NoMemory> for Stop {
@@ -84,6 +88,20 @@ impl From<AllError> for Stop {
         match error {
             AllError::Abort(note) => Stop::Aborted(note),
             AllError::NoMemory => Stop::NoMemory,
+        }
+    }
+}
+
+impl From<ImageLogError> for Stop {
+    ghost from_gives = { λ error stop. stop ≡ stop_of_log error };
+
+    fn from(error: ImageLogError) -> Self {
+        match error {
+            Refusal::Fault(LogFault::Unaccepted(fault)) => {
+                Stop::Script(ScriptFault::Unaccepted(fault))
+            }
+            Refusal::Fault(LogFault::Image(fault)) => Stop::Image(fault),
+            Refusal::NoMemory => Stop::NoMemory,
         }
     }
 }
@@ -166,7 +184,7 @@ impl Stop {
     {
         match self {
             Stop::Usage => 1,
-            Stop::Script(_) => 2,
+            Stop::Script(_) | Stop::Image(_) => 2,
             Stop::NotEmpty { .. } | Stop::NoStore | Stop::Damaged(_) => 3,
             Stop::Aborted(_) => 4,
             Stop::RowsOver { .. } => 5,
@@ -193,6 +211,7 @@ impl Stop {
                 | Stop::RowsOver { .. }
                 | Stop::LogFull { .. }
                 | Stop::TooLarge { .. }
+                | Stop::Image(_)
         )
     }
 }

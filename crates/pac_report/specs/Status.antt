@@ -2,7 +2,7 @@
 use Rattle.std.specs.Prelude.{ℕ, Bool, true, false, List, ◌++◌, codes}
 use Rattle.std.specs.Fmt.{decimal}
 use Rattle.pac_report.specs.declared.status.StatusLine.{StatusLine}
-use Rattle.pac_report.specs.declared.status.StatusLine.TheVariants.{Usage, Catalogue, Operations, Script, NotEmpty, NoStore, Damaged, Abort, Rows, InputFault, OutputFault, DiskFault, NoMemory, LogFull, InputTooLong, TooLarge}
+use Rattle.pac_report.specs.declared.status.StatusLine.TheVariants.{Usage, Catalogue, Operations, Script, NotEmpty, NoStore, Damaged, Abort, Rows, InputFault, OutputFault, DiskFault, NoMemory, LogFull, InputTooLong, TooLarge, Image}
 
 -- ---- the words of lines with names and numbers
 
@@ -42,6 +42,10 @@ full_words need = codes "log full " ++ decimal need
 abbrev pub too_large_words : ℕ → List ℕ
 too_large_words bytes = codes "checkpoint too large " ++ decimal bytes
 
+-- the offset of the first fault of after-images, and its kind
+abbrev pub image_words : ℕ → List ℕ → List ℕ
+image_words at kind = codes "image " ++ decimal at ++ codes " " ++ kind
+
 -- ---- the lines
 
 -- words with a line feed after them
@@ -50,7 +54,7 @@ as_line words = words ++ codes "\n"
 
 -- a status without its line feed
 abbrev pub fault_words : StatusLine → List ℕ
-fault_words Usage = codes "usage: pacman init, run, recover, explain, replay or stress"
+fault_words Usage = codes "usage: pacman init, run, recover, explain, replay, stress or lay"
 fault_words (Catalogue at kind) = catalogue_words at kind.now
 fault_words (Operations proc count) = operations_words proc.now count
 fault_words (Script line at kind) = script_words line at kind.now
@@ -66,6 +70,7 @@ fault_words NoMemory = codes "no memory"
 fault_words (LogFull need) = full_words need
 fault_words InputTooLong = codes "input too long"
 fault_words (TooLarge bytes) = too_large_words bytes
+fault_words (Image at kind) = image_words at kind.now
 
 -- a status is one line
 abbrev pub fault_text : StatusLine → List ℕ

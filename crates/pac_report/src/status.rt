@@ -74,6 +74,11 @@ pub enum StatusLine<'a> {
     TooLarge {
         bytes: u64,
     },
+    /// The first fault of after-images.
+    Image {
+        at: u64,
+        kind: &'a str,
+    },
 }
 
 impl StatusLine<'_> {
@@ -83,7 +88,7 @@ impl StatusLine<'_> {
     {
         match self {
             StatusLine::Usage => {
-                Some(b"usage: pacman init, run, recover, explain, replay or stress\n")
+                Some(b"usage: pacman init, run, recover, explain, replay, stress or lay\n")
             }
             StatusLine::NoStore => Some(b"no store\n"),
             StatusLine::InputFault => Some(b"input fault\n"),
@@ -99,7 +104,8 @@ impl StatusLine<'_> {
             | StatusLine::Abort { .. }
             | StatusLine::Rows { .. }
             | StatusLine::LogFull { .. }
-            | StatusLine::TooLarge { .. } => None,
+            | StatusLine::TooLarge { .. }
+            | StatusLine::Image { .. } => None,
         }
     }
 }
@@ -142,6 +148,7 @@ fn push_status(out: &mut Vec<u8>, line: &StatusLine<'_>) -> Result<(), NoMemory>
         StatusLine::Rows { table, rows, limit } => push_rows(out, table, *rows, *limit),
         StatusLine::LogFull { need } => push_counted(out, b"log full", *need),
         StatusLine::TooLarge { bytes } => push_counted(out, b"checkpoint too large", *bytes),
+        StatusLine::Image { at, kind } => push_fault(out, b"image", *at, kind),
         _ => unreachable!(),
     }
 }

@@ -2,6 +2,7 @@
 //!
 //! - [`read_script`]: the [`Script`] that a text is, a catalogue and batches of transactions that fit it; or its first
 //!   [`ScriptFault`].
+//! - [`find_mark`]: where the line stands that ends the catalogue.
 //! - [`stress_txn`]: the transactions of the stress test. [`BANK`]: the text of the catalogue over which it runs; [`bank_text`] returns
 //!   it as the one that `specs/BankText.antt` spells.
 //!
@@ -27,6 +28,7 @@ mod step;
 mod stress;
 
 pub use bank::{BANK, bank_text};
+pub use lines::find_mark;
 pub use script::{Script, read_script};
 pub use script_fault::{ScriptError, ScriptFault};
 pub use stress::stress_txn;

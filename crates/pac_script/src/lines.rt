@@ -15,7 +15,7 @@ fn begins_with_mark(text: &[u8]) -> bool
 }
 
 /// Where the first line that is exactly `---` begins.
-pub(crate) fn find_mark(text: &[u8]) -> Option<usize>
+pub fn find_mark(text: &[u8]) -> Option<usize>
     ensures within { IfSome result (λ at. at + 3 ≤ length text.now) }
     ensures mark { MatchOption result (HasNoMark text.now) (λ at. IsMark text.now at) }
 {

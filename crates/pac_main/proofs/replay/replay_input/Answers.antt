@@ -1,5 +1,6 @@
 -- What is reported is the stop that came, unless there was no memory for its line.
 use Rattle.std.proofs.Common.{refl, arith}
+use Rattle.pac_main.specs.Replay.{IsDumpOf}
 use Rattle.pac_main.specs.Streams.{observed}
 use Rattle.pac_main.proofs.StopLemmas.{replay-ends}
 use Rattle.pac_main.proofs.replay.replay_input.Goals as goal
@@ -18,7 +19,7 @@ returns-in-Ok-clause-ends g c = record {
 }
 
 pub returns-in-Err-clause-ends : goal.returns-in-Err-clause-ends
-returns-in-Err-clause-ends g c = replay-ends c.args.limit
+returns-in-Err-clause-ends g c = replay-ends c.args.limit (IsDumpOf c.args.limit (g.I.Source.left c.args.input.now))
     (observed g.I.Source.left g.I.Source.faults c.args.input.now c.replay.new.input) (observed g.O.Sink.held g.O.Sink.faults c.args.output.now c.replay.new.output)
     (observed g.E.Sink.held g.E.Sink.faults c.args.errors.now c.report.new.errors)
     c.in-Err.stop c.report.result c.status.result c.status.ensures c.report.ensures.which c.in-Err.ensures.stops c.report.ensures.line
