@@ -14,5 +14,6 @@ pub mod RunStatusLemmas
 pub mod RunLemmas
 pub mod IdleLemmas
 pub mod HistoryLemmas
+pub mod LifeLemmas
 pub mod HeadlineLemmas
 pub mod AgreementLemmas

@@ -2,6 +2,7 @@
 use Rattle.std.specs.Prelude.{◌≡◌, ◌≤◌, ◌⊎◌, ℕ, List, [], ◌∷◌, take, Some}
 use Rattle.std.specs.List.{AllZip}
 use Rattle.pac_ops.specs.declared.transaction.Txn.{Txn}
+use Rattle.pac_outside.specs.Content.{Took}
 use Rattle.pac_outside.specs.Devices.{AllLeave, AreImages, OnEach, OneFaulted, all_known}
 use Rattle.pac_outside.specs.Disk.{DiskHistory, settled}
 use Rattle.pac_outside.specs.Parts.{reads_of}
@@ -15,6 +16,7 @@ use Rattle.pac_run.specs.Opening.{AllStand}
 use Rattle.pac_run.specs.Run.{history_after}
 use Rattle.pac_main.specs.Histories.{FoundStanding, StandsForNone, LeavesHistory}
 use Rattle.pac_main.specs.Recover.{Recovery, RecoversPrefix}
+use Rattle.pac_main.specs.Run.{RunEnds}
 use Rattle.pac_main.specs.Streams.{AnyFaulted, IsOneOf, Observed, ObservedDevices}
 
 -- ---- what a run is begun on
@@ -47,6 +49,15 @@ pub record OneRun : Type 0 where
   pub exit : Devices DiskHistory
   pub leaves : (text : List ℕ) (catalogue : CatalogueState) (history : List Txn) (least : ℕ)
       → FoundStanding text catalogue history least entry → LeavesHistory text catalogue history least rules start requests out entry exit
+
+-- this is the run that ended so, on devices with these histories: its session is that of the command, and the output took its text
+pub record IsRunThat {group_size limit status : ℕ} {input output errors : Observed} {devices : ObservedDevices} (ends : RunEnds group_size limit status input output errors devices) (entry exit : Devices DiskHistory) (run : OneRun) : Type 0 where
+  pub rules : run.rules ≡ ends.is.rules
+  pub start : run.start ≡ ends.is.start
+  pub requests : run.requests ≡ ends.is.requests
+  pub entered : run.entry ≡ entry
+  pub left : run.exit ≡ exit
+  pub took : Took output.before run.out output.after
 
 -- Each run is begun on devices as the one before it left them, the first on these, and the last leaves those.
 abbrev pub AreRuns : Devices DiskHistory → List OneRun → Devices DiskHistory → Type 0

@@ -7,13 +7,14 @@ ghost use Rattle.pac_outside.specs.Parts.{reads_of};
 ghost use Rattle.pac_outside.specs.declared.devices.Devices.{Devices as ADevices};
 ghost use Rattle.pac_types.specs.Typing.{CatalogueState};
 ghost use Rattle.pac_run.specs.Opening.{AllStand};
-ghost use Rattle.pac_main.specs.Headline.{AreAsLeft, AreFound, AreRuns, HoldImages, KeepsAll, Life, OneRun, RecoversExactly};
+ghost use Rattle.pac_main.specs.Headline.{AreAsLeft, AreFound, AreRuns, HoldImages, IsRunThat, KeepsAll, Life, OneRun, RecoversExactly};
 ghost use Rattle.pac_main.specs.Histories.{StandsForNone};
 ghost use Rattle.pac_main.specs.Init.{InitEnds};
 ghost use Rattle.pac_main.specs.Lay.{IsLaidDumpOf, IsLaidInLimit};
 ghost use Rattle.pac_main.specs.Record.{IsLogOf};
 ghost use Rattle.pac_main.specs.Recover.{Recovery, RecoversPrefix};
 ghost use Rattle.pac_main.specs.Replay.{IsDumpOf};
+ghost use Rattle.pac_main.specs.Run.{RunEnds};
 ghost use Rattle.pac_main.specs.Streams.{Observed, ObservedDevices};
 ghost use Rattle.pac_run.specs.declared.limits.TheConstants.{MAX_INPUT};
 
@@ -23,8 +24,8 @@ ghost use Rattle.pac_run.specs.declared.limits.TheConstants.{MAX_INPUT};
 /// outside fault that rose, a table over the row limit, or that it ran out of memory.
 ///
 /// The parts of a [`Life`](../specs/Headline.antt) are what the clauses of [`pacman`](crate::pacman) say: an `init` that answers 0
-/// makes a store by [`a_new_store_stands_for_none`], a run leaves a history as `RunEnds.leaves` says, and `RecoverEnds.is` is the
-/// recovery.
+/// makes a store by [`a_new_store_stands_for_none`], a `run` is a run of a life by [`a_run_is_of_a_life`], and `RecoverEnds.is` is
+/// the recovery.
 pub fn recovery_is_exact()
     ensures { (life : Life) → RecoversExactly life }
 {}
@@ -33,6 +34,13 @@ pub fn recovery_is_exact()
 pub fn a_new_store_stands_for_none()
     ensures { (text : List ℕ) (input errors : Observed) (devices : ObservedDevices) (entry exit : ADevices DiskHistory) → InitEnds 0 input errors devices
         → input.before ≡ Some text → all_known devices.before ≡ Some entry → all_known devices.after ≡ Some exit → (catalogue : CatalogueState) × StandsForNone text catalogue exit }
+{}
+
+/// What [`pacman`](crate::pacman) says of a `run` makes it a run of a store's life, where the histories of its devices are known.
+pub fn a_run_is_of_a_life()
+    ensures { (group_size limit status : ℕ) (input output errors : Observed) (devices : ObservedDevices) (entry exit : ADevices DiskHistory)
+        → (ends : RunEnds group_size limit status input output errors devices) → all_known devices.before ≡ Some entry → all_known devices.after ≡ Some exit
+        → (run : OneRun) × IsRunThat ends entry exit run }
 {}
 
 /// Any number of runs, one after another, on a store that stands for a history, as a new one does for none. What the last of

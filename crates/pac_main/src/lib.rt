@@ -4,7 +4,7 @@
 //! - [`init_command`], [`run_command`], [`explain_command`]: one command alone.
 //! - [`refuse_arguments`]: the exit status for arguments that couldn't be read.
 //! - [`recovery_is_exact`]: the law over a new store, any number of runs on it, each begun on what a crash or a kill left,
-//!   and what is recovered after them. [`a_new_store_stands_for_none`],
+//!   and what is recovered after them. [`a_new_store_stands_for_none`], [`a_run_is_of_a_life`],
 //!   [`runs_keep_what_is_acknowledged`] and [`recover_gives_what_is_acknowledged`] are its parts.
 //!   [`cuts_and_kills_are_found`]: what a power cut or a kill leaves is what a run may begin on.
 //! - [`a_log_gives_the_dump_of_its_script`]: the law over the two logs, that what `replay --images` writes of a script is a log of
@@ -44,8 +44,9 @@ pub use command::pacman;
 pub use explain::explain_command;
 pub use init::init_command;
 pub use laws::{
-    a_log_gives_the_dump_of_its_script, a_new_store_stands_for_none, cuts_and_kills_are_found,
-    recover_gives_what_is_acknowledged, recovery_is_exact, runs_keep_what_is_acknowledged,
+    a_log_gives_the_dump_of_its_script, a_new_store_stands_for_none, a_run_is_of_a_life,
+    cuts_and_kills_are_found, recover_gives_what_is_acknowledged, recovery_is_exact,
+    runs_keep_what_is_acknowledged,
 };
 pub use reporting::{ArgumentsError, refuse_arguments};
 pub use run::run_command;
