@@ -2,7 +2,7 @@
 use crate::part::PartError;
 use crate::rows::filled;
 use pac_base::NoMemory;
-use pac_check::{Slots, can_be_saved};
+use pac_check::{SlotHeads, Slots, can_be_saved};
 use pac_outside::FileDisk;
 use pac_types::read_catalogue;
 use std::alloc::Global;
@@ -34,7 +34,13 @@ pub fn save<'a, R: Files<File = File>>(
     if !can_be_saved(&rows) {
         return Err(PartError::Refused);
     }
-    let mut slots = Slots::read(alloc, &cat, a, b)?;
-    slots.save(alloc, &cat, &rows, 0, 0, a, b)?;
+    let heads = SlotHeads::attach(alloc, a, b)?;
+    let mut slots = Slots::attach(alloc, heads, &cat, a, b)?;
+    if slots.newest().is_some() {
+        return Err(PartError::NotEmpty);
+    }
+    slots.prepare(alloc, &cat, &rows, 0, 0)?;
+    slots.close_older(a, b)?;
+    slots.publish(a, b)?;
     Ok(u64::from(count))
 }

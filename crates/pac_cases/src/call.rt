@@ -232,13 +232,13 @@ fn call_disks<RT: Threads + Wait + Sync>(
 ) -> Result<(), AllocError> {
     let arguments = arguments_of(alloc, line)?;
     let outage = Outage::new(faults.disk);
-    outcome.status = call_three(rt, alloc, &arguments, streams, disks, &outage);
+    outcome.status = call_four(rt, alloc, &arguments, streams, disks, &outage);
     outcome.disk_calls = outage.made();
     Ok(())
 }
 
-// The status, or 255 if there aren't three disks.
-fn call_three<RT: Threads + Wait + Sync>(
+// The status, or 255 if there aren't four disks.
+fn call_four<RT: Threads + Wait + Sync>(
     rt: &RT,
     alloc: Global,
     arguments: &[String],
@@ -247,29 +247,27 @@ fn call_three<RT: Threads + Wait + Sync>(
     outage: &Outage,
 ) -> u8 {
     match disks {
-        [log, slot_a, slot_b] => {
-            call_program(rt, alloc, arguments, streams, log, slot_a, slot_b, outage)
+        [log, log_b, slot_a, slot_b] => {
+            let mut devices = Devices {
+                log: LentDisk::new(log, outage),
+                log_b: LentDisk::new(log_b, outage),
+                slot_a: LentDisk::new(slot_a, outage),
+                slot_b: LentDisk::new(slot_b, outage),
+            };
+            call_program(rt, alloc, arguments, streams, &mut devices)
         }
         _ => 255,
     }
 }
 
 // The status, or 254 if a command without workers entered the gate.
-fn call_program<'a, RT: Threads + Wait + Sync>(
+fn call_program<RT: Threads + Wait + Sync>(
     rt: &RT,
     alloc: Global,
     arguments: &[String],
     streams: &mut Streams,
-    log: &'a mut MemDisk,
-    slot_a: &'a mut MemDisk,
-    slot_b: &'a mut MemDisk,
-    outage: &'a Outage,
+    devices: &mut Devices<LentDisk<'_>>,
 ) -> u8 {
-    let mut devices = Devices {
-        log: LentDisk::new(log, outage),
-        slot_a: LentDisk::new(slot_a, outage),
-        slot_b: LentDisk::new(slot_b, outage),
-    };
     let gate = CountingGate {
         entered: AtomicU64::new(0),
     };
@@ -280,7 +278,7 @@ fn call_program<'a, RT: Threads + Wait + Sync>(
         &mut streams.input,
         &mut streams.output,
         &mut streams.errors,
-        &mut devices,
+        devices,
         &gate,
     );
     if gate.entered.load(Ordering::SeqCst) == 0 || has_workers(arguments) {

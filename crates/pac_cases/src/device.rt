@@ -8,8 +8,9 @@ use std::alloc::{AllocError, Global};
 fn index_of(name: &str) -> usize {
     match name {
         "log" => 0,
-        "a" => 1,
-        "b" => 2,
+        "log_b" => 1,
+        "a" => 2,
+        "b" => 3,
         _ => usize::MAX,
     }
 }

@@ -219,7 +219,7 @@ fn read_line<'a>(
 // `== a name`
 fn begin_case<'a>(alloc: Global, runner: &mut Runner<'a>, word: &str) -> Result<bool, AllocError> {
     runner.devices.clear();
-    for _ in 0..3 {
+    for _ in 0..4 {
         runner.devices.push(Vec::new(alloc))?;
     }
     Ok(word == "==" && !runner.faults.any)

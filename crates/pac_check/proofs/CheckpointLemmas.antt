@@ -5,7 +5,7 @@ use Rattle.std.specs.List.{flat_map, AllByRecursion, AllZip}
 use Rattle.std.specs.Int.{w16, w64, to_le_bytes}
 use Rattle.std.specs.Cmp.Lexicographic.{pointwise}
 use Rattle.std.proofs.lemmas.Bool.{eqb-true, eqb-false}
-use Rattle.std.proofs.lemmas.List.{take_at, drop_at, drop-drop, take-append-drop, append-nil}
+use Rattle.std.proofs.lemmas.List.{drop-drop, take-append-drop, append-nil}
 use Rattle.std.proofs.lemmas.List.Concat.{flat_map-cons}
 use Rattle.pac_value.specs.declared.values.Key.{Key}
 use Rattle.pac_value.specs.declared.values.Key.TheVariants.{Int as IntKey}
@@ -16,7 +16,7 @@ use Rattle.pac_types.specs.WellFormed.{types}
 use Rattle.pac_bytes.specs.Reading.{Rest, from, advanced, reported_as, next_uint, along}
 use Rattle.pac_bytes.specs.Readers.{IsAtStart}
 use Rattle.pac_bytes.specs.Typed.{KeyHasType, key_bytes, next_key, HaveTypes, values_bytes, next_values}
-use Rattle.pac_bytes.proofs.Results.{ok_same, true_ok}
+use Rattle.pac_bytes.proofs.Results.{ok_same}
 use Rattle.pac_bytes.proofs.Codec.{IsCodec, ended, seq, either, never, same, reported_again}
 use Rattle.pac_bytes.proofs.Lists.{along_codec}
 use Rattle.pac_bytes.proofs.Numbers.{uint_codec, width16, width64}

@@ -12,4 +12,3 @@ pub mod ShutLemmas
 pub mod OnceLemmas
 pub mod NewestLemmas
 pub mod FrontLemmas
-pub mod FillingLemmas

@@ -1,10 +1,8 @@
 -- A slot that is shut, and then opened with a new text.
-use Rattle.std.proofs.Common.{◌≡◌, ◌≢◌, ◌∙◌, ◌⊎◌, inl, inr, ⊎_elim, ℕ, List, [], ◌∷◌, ◌++◌, ◌+◌, length, drop, Option, Some, None, refl, sym, ap, subst, arith}
+use Rattle.std.proofs.Common.{◌≡◌, ◌≢◌, ◌∙◌, ◌⊎◌, inl, inr, ⊎_elim, ℕ, List, [], ◌∷◌, length, drop, Option, Some, None, refl, sym, ap, subst, arith}
 use Rattle.std.proofs.lemmas.Bool.{cases_eq}
-use Rattle.std.proofs.lemmas.List.{drop_all}
-use Rattle.std.proofs.Math.Seq.{drop-append-add}
-use Rattle.pac_outside.specs.Disk.{DiskState, DiskHistory, IsImage, BothKnown, IfKnown, LeavesOnly, LeavesTorn, IsDurable, wrote, settled, spliced}
-use Rattle.pac_outside.specs.GateByte.{IsShut, IsOpen, OneImage, ShutOrOpen}
+use Rattle.pac_outside.specs.Disk.{DiskState, DiskHistory, IsImage, BothKnown, IfKnown, LeavesOnly, LeavesTorn, IsDurable, wrote, settled}
+use Rattle.pac_outside.specs.GateByte.{IsShut, OneImage, ShutOrOpen}
 use Rattle.pac_outside.proofs.Images.{length_stays, back_stays, one_image}
 use Rattle.pac_outside.proofs.Histories.{weaken, both, stays}
 use Rattle.pac_check.specs.declared.state.SlotState.{SlotState}

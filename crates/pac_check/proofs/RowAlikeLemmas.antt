@@ -14,7 +14,7 @@ use Rattle.pac_bytes.specs.declared.fault.TypedFault.{TypedFault}
 use Rattle.pac_bytes.specs.declared.fault.TypedFault.TheVariants as typed
 use Rattle.pac_bytes.specs.Reading.{Rest, advanced, reported_as}
 use Rattle.pac_bytes.specs.Typed.{next_values}
-use Rattle.pac_check.specs.declared.damage.SlotDamageKind.TheVariants.{Magic, Range, Order}
+use Rattle.pac_check.specs.declared.damage.SlotDamageKind.TheVariants.{Range, Order}
 use Rattle.pac_check.specs.declared.damage.SlotFault.{SlotFault}
 use Rattle.pac_outside.specs.declared.devices.LogName.TheVariants.{Log, LogB}
 use Rattle.pac_check.specs.declared.head.Head.{Head}

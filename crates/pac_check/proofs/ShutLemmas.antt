@@ -1,5 +1,5 @@
 -- What stands in a slot that is shut.
-use Rattle.std.proofs.Common.{◌≡◌, ◌≢◌, ℕ, Bool, true, false, if◌then◌else◌, eqb, List, [], ◌∷◌, take, Option, Some, None, Ok, refl, sym, subst}
+use Rattle.std.proofs.Common.{◌≡◌, ◌≢◌, ℕ, Bool, true, false, if◌then◌else◌, eqb, List, [], ◌∷◌, Ok, refl, sym, subst}
 use Rattle.std.proofs.lemmas.Bool.{eqb-true}
 use Rattle.pac_types.specs.declared.table.Table.{Table}
 use Rattle.pac_check.specs.declared.head.Head.{Head}

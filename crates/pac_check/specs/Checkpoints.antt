@@ -27,10 +27,6 @@ pub record Checkpoint : Type 0 where
   pub head : Head
   pub tables : List (List KeyedRow)
 
--- the head with these numbers, of a checkpoint of the first form
-abbrev pub first_head : ℕ → ℕ → Head
-first_head txns place = record { txns = txns; place = place; form = First }
-
 -- the head with these numbers, of a checkpoint that names this segment
 abbrev pub head_with : ℕ → ℕ → LogName → Head
 head_with txns place segment = record { txns = txns; place = place; form = Later segment }

@@ -6,4 +6,3 @@ pub mod Saved
 pub mod Taking
 pub mod SlotStates
 pub mod Replacing
-pub mod Filling

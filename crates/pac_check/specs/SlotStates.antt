@@ -137,7 +137,3 @@ HasAnyReady slots = IsSomeAnd slots.ready (λ ready. Unit {0})
 -- a checkpoint with this head was put into the spare slot, and none is ready
 abbrev pub published_slots : Head → Slots → Slots
 published_slots head slots = by_slot (spare_of slots) (record slots { a = Open head; ready = None }) (record slots { b = Open head; ready = None })
-
--- a checkpoint with this head was put into the spare slot, whatever is ready
-abbrev pub saved_slots : Head → Slots → Slots
-saved_slots head slots = by_slot (spare_of slots) (record slots { a = Open head }) (record slots { b = Open head })

@@ -2,23 +2,24 @@
 //! slot whole.
 //!
 //! - [`create_slot`] makes a slot without a checkpoint on an empty device.
-//! - [`Slots::read`] reads two slots: what is open in each, a [`SlotInfo`], or the first damage. [`Slots::newest`] is
-//!   the one with more transactions; of equal ones, slot a. [`SlotHeads::attach`] reads no more than which is the newest and
-//!   which segment of the log it names, for which no catalogue is needed, and [`Slots::attach`] the rest.
+//! - [`SlotHeads::attach`] reads what two slots begin with: which is the newest and which segment of the log it names, for
+//!   which no catalogue is needed. [`Slots::attach`] reads the rest: what is open in each, a [`SlotInfo`], or the first damage.
+//!   [`Slots::newest`] is the one with more transactions; of equal ones, slot a.
 //! - [`Slots::load_newest`] reads its tables into any [`Rows`](pac_tables::Rows).
-//! - [`Slots::save`] writes a checkpoint into the slot that isn't the newest; [`can_be_saved`] tests that each table
-//!   has at most [`MAX_SAVED_ROWS`] rows.
-//! - [`Slots::prepare`], [`Slots::close_older`] and [`Slots::publish`] do so in three steps, for a checkpoint that names the
-//!   segment after the active one.
+//! - [`Slots::prepare`], [`Slots::close_older`] and [`Slots::publish`] write a checkpoint into the slot that isn't the newest, which
+//!   names the segment after the active one; [`can_be_saved`] tests that each table has at most [`MAX_SAVED_ROWS`] rows.
 //!
 //! ```
-//! use pac_check::{Slots, create_slot};
+//! use pac_check::{SlotHeads, Slots, create_slot};
 //!
 //! create_slot(&mut a)?;
 //! create_slot(&mut b)?;
-//! let mut slots = Slots::read(alloc, cat, &mut a, &mut b)?;
-//! slots.save(alloc, cat, rows, 1, 69, &mut a, &mut b)?; // after one transaction, with the log's gate byte at 69
-//! let newest = slots.newest(); // slot a, 1 transaction, 69
+//! let heads = SlotHeads::attach(alloc, &mut a, &mut b)?;
+//! let mut slots = Slots::attach(alloc, heads, cat, &mut a, &mut b)?;
+//! slots.prepare(alloc, cat, rows, 1, 44)?; // after one transaction, with the next segment's first gate byte at 44
+//! slots.close_older(&mut a, &mut b)?;
+//! slots.publish(&mut a, &mut b)?;
+//! let newest = slots.newest(); // slot a, 1 transaction, 44
 //! ```
 //!
 //! A slot is a gate byte and, where that is 1, a checkpoint: the name `PACMSLT1`; the number of transactions and the
@@ -28,9 +29,9 @@
 //! the number of tables, for the device of its segment: 0 or 1. A slot without a byte is closed. An open one is read in
 //! pieces, each byte once after the first few: none is held whole.
 //!
-//! At each moment of a save, after an error too, the other slot is as it was, and this one is as it was, closed, or has
-//! the whole checkpoint (`any_moment`, `other`); of a device without a byte nothing is said. `TooLarge` comes exactly
-//! where the slot would have more than [`MAX_SLOT_LEN`] bytes. `specs/Checkpoints.antt` and
+//! At each moment of the two calls that write, after an error too, the other slot is as it was, and this one is as it was or
+//! closed, and then closed or has the whole checkpoint (`any_moment`, `other`); of a device without a byte nothing is said.
+//! `TooLarge` comes exactly where the slot would have more than [`MAX_SLOT_LEN`] bytes. `specs/Checkpoints.antt` and
 //! `specs/CheckpointReading.antt` define the bytes and how they are read; `specs/Saved.antt` says which checkpoint
 //! tables are, `specs/SlotStates.antt` what a slot holds. [`slots_are_clear`]: bytes hold one checkpoint.
 #![tactic(auto)]
@@ -39,7 +40,6 @@ mod creation;
 mod damage;
 mod descent;
 mod errors;
-mod filling;
 mod head;
 mod info;
 mod items;

@@ -113,29 +113,6 @@ fn look_at_open<D: Disk>(
     }
 }
 
-/// What stands in a slot. Of one that is shut no more than its gate byte is looked at; an open one is read in pieces, up to the
-/// end of its checkpoint, and no row is kept.
-///
-/// # Errors
-///
-/// Those of [`look_at`].
-pub(crate) fn read_slot<D: Disk>(
-    alloc: Global,
-    cat: &Catalogue,
-    slot: SlotName,
-    disk: &mut D,
-) -> Result<SlotState, SlotError>
-    ensures state { IfOk result (λ state. IfKnown (λ old. IsSlot cat.now.tables state old.now.seen × OpensExactly cat.now.tables state old.now.seen) (D.known disk.old)) }
-    ensures damaged { (name : ASlotName) (at : ℕ) (kind : ADamageKind) → IsErrOf result (SlotError.Damaged name at kind) → (name ≡ slot) × IfKnown (λ old. slot_read cat.now.tables old.now.seen ≡ Err (slot_fault kind at)) (D.known disk.old) }
-    ensures same { D.known disk.new ≡ D.known disk.old }
-    ensures counted { IsErrOf result SlotError.DiskFault → D.faults disk.new ≡ one_more (D.faults disk.old) }
-    ensures quiet { ¬ IsErrOf result SlotError.DiskFault → D.faults disk.new ≡ D.faults disk.old }
-{
-    let state = front_of(alloc, slot, disk)?;
-    look_at(alloc, cat, slot, state, disk)?;
-    Ok(state)
-}
-
 /// Reads the tables of an open slot, of which this is known, into tables without rows.
 ///
 /// # Errors

@@ -11,17 +11,14 @@ ghost use Rattle.pac_check.specs.declared.head.Head.{Head as AHead};
 ghost use Rattle.pac_check.specs.declared.info.SlotName.{SlotName as ASlotName};
 ghost use Rattle.pac_check.specs.declared.info.SlotInfo.{SlotInfo as ASlotInfo};
 ghost use Rattle.pac_check.specs.declared.state.SlotState.{SlotState as AState};
-ghost use Rattle.pac_check.specs.declared.errors.SaveError.{SaveError as ASaveError};
 ghost use Rattle.pac_check.specs.declared.limits.TheConstants.{MAX_SAVED_ROWS, MAX_SLOT_LEN};
-ghost use Rattle.pac_check.specs.Checkpoints.{IsCheckpoint, checkpoint_bytes, first_head};
-ghost use Rattle.pac_check.specs.Filling.{IsOldShutOrNew};
+ghost use Rattle.pac_check.specs.Checkpoints.{IsCheckpoint, checkpoint_bytes};
 ghost use Rattle.pac_check.specs.Kinds.{slot_fault};
 ghost use Rattle.pac_check.specs.Replacing.{BeginsAs, HasByte, IsOldOrShut, IsShutOrNew};
 ghost use Rattle.pac_check.specs.Saved.{checkpoint_of};
-ghost use Rattle.pac_check.specs.SlotStates.{HasAnyReady, HoldsInfo, HoldsRows, IsAbove, IsSlotFront, HasReadyText, IsSlot, OpensExactly, active_in, active_of, by_slot, closed_slots, coming_head, front_read, info_of, newest_among, newest_of, published_slots, saved_slots, slot_read, spare_of, with_ready};
+ghost use Rattle.pac_check.specs.SlotStates.{HasAnyReady, HoldsInfo, IsAbove, IsSlotFront, HasReadyText, IsSlot, OpensExactly, active_in, active_of, by_slot, closed_slots, coming_head, front_read, info_of, newest_among, newest_of, published_slots, slot_read, spare_of, with_ready};
 
-use crate::filling::fill;
-use crate::reading::{front_of, load_slot, look_at, read_slot};
+use crate::reading::{front_of, load_slot, look_at};
 use crate::replacing::{close, open};
 use crate::text::checkpoint_text;
 use crate::{Head, SaveError, SlotError, SlotForm, SlotInfo, SlotName, SlotState};
@@ -166,45 +163,6 @@ impl Slots {
         Ok(Slots {
             a: heads.a,
             b: heads.b,
-            has_failed: false,
-            ready: None,
-        })
-    }
-
-    /// What stands in two slots, slot a before slot b. Of one that is shut no more than its gate byte is looked at. An open one is
-    /// read up to the end of its checkpoint, in pieces of 262,144 bytes: it holds one of these at a time, and one row besides.
-    ///
-    /// # Errors
-    ///
-    /// Those of [`Slots::attach`], and of slot a all before those of slot b.
-    pub fn read<D: Disk>(
-        alloc: Global,
-        cat: &Catalogue,
-        a: &mut D,
-        b: &mut D,
-    ) -> Result<Slots, SlotError>
-        // What stands in each: it is open where a checkpoint stands there, and nowhere else.
-        ensures a { IfOk result (λ slots. IfKnown (λ old. IsSlot cat.now.tables slots.a old.now.seen × OpensExactly cat.now.tables slots.a old.now.seen) (D.known a.old)) }
-        ensures b { IfOk result (λ slots. IfKnown (λ old. IsSlot cat.now.tables slots.b old.now.seen × OpensExactly cat.now.tables slots.b old.now.seen) (D.known b.old)) }
-        ensures works { IfOk result (λ slots. slots.has_failed ≡ false) }
-        ensures none_ready { IfOk result (λ slots. slots.ready ≡ NoReady) }
-
-        // The first fault, of slot a before slot b.
-        ensures damaged { (slot : ASlotName) (at : ℕ) (kind : ADamageKind) → IsErrOf result (SlotError.Damaged slot at kind) → IfKnown (λ old. slot_read cat.now.tables old.now.seen ≡ Err (slot_fault kind at)) (by_slot slot (D.known a.old) (D.known b.old)) }
-        ensures first { (at : ℕ) (kind : ADamageKind) → IsErrOf result (SlotError.Damaged SlotName.B at kind) → IfKnown (λ old. (state : AState) × IsSlot cat.now.tables state old.now.seen) (D.known a.old) }
-
-        // Both are only read.
-        ensures same_a { D.known a.new ≡ D.known a.old }
-        ensures same_b { D.known b.new ≡ D.known b.old }
-        ensures disk_fault { IsErrOf result SlotError.DiskFault → EitherFaulted (D.faults a.old) (D.faults a.new) (D.faults b.old) (D.faults b.new) }
-        ensures quiet_a { ¬ IsErrOf result SlotError.DiskFault → D.faults a.new ≡ D.faults a.old }
-        ensures quiet_b { ¬ IsErrOf result SlotError.DiskFault → D.faults b.new ≡ D.faults b.old }
-    {
-        let a = read_slot(alloc, cat, SlotName::A, a)?;
-        let b = read_slot(alloc, cat, SlotName::B, b)?;
-        Ok(Slots {
-            a,
-            b,
             has_failed: false,
             ready: None,
         })
@@ -398,71 +356,6 @@ impl Slots {
         match spare {
             SlotName::A => open(a, &mut self.a, &mut self.has_failed, head, text.as_slice()),
             SlotName::B => open(b, &mut self.b, &mut self.has_failed, head, text.as_slice()),
-        }
-    }
-
-    /// Puts the checkpoint of tables into the slot that isn't the newest, slot a where none is open: the tables after
-    /// `txns` transactions, after which the log's gate stands at this offset. Its text is made before the first device call.
-    /// Where the slot's gate is open, or its device has no byte, the gate is closed first, and synced; then the text is
-    /// written, synced, the gate opened, and synced. At each moment a crash leaves the other slot, and this one as it was,
-    /// closed, or with the whole checkpoint.
-    ///
-    /// # Errors
-    ///
-    /// - [`SaveError::TooLarge`] only where the slot would have more than 268,435,456 bytes; no device is called.
-    /// - [`SaveError::NoMemory`] where there was no memory for the text; no device is called.
-    /// - [`SaveError::DiskFault`] where a call of a device failed, so only where its count of faults rose; no call comes
-    ///   after it, and the slots have failed.
-    pub fn save<D: Disk, R: Rows>(
-        &mut self,
-        alloc: Global,
-        cat: &Catalogue,
-        rows: &R,
-        txns: u64,
-        place: u64,
-        a: &mut D,
-        b: &mut D,
-    ) -> Result<(), SaveError>
-        requires fits { FitsCatalogue cat.now (R.tables rows.now) (R.held rows.now) }
-        requires few { (table : ℕ) → table < R.tables rows.now → length (keys_of (R.held rows.now) table) ≤ MAX_SAVED_ROWS }
-        requires works { self.old.has_failed ≡ false }
-        requires holds_a { IfKnown (λ old. OneImage (IsSlot cat.now.tables self.old.a) old.now) (D.known a.old) }
-        requires holds_b { IfKnown (λ old. OneImage (IsSlot cat.now.tables self.old.b) old.now) (D.known b.old) }
-
-        // At each moment the slot is as it was, closed, or has the whole checkpoint; of one that had no byte nothing is said.
-        ensures any_moment { HasByte (by_slot (spare_of self.old) self.old.a self.old.b)
-            → BothKnown (λ old new. LeavesOnly (IsOldShutOrNew old.now.seen (checkpoint_bytes (checkpoint_of (length cat.now.tables) (first_head txns place) (R.held rows.now)))) old new)
-            (by_slot (spare_of self.old) (D.known a.old) (D.known b.old)) (by_slot (spare_of self.old) (D.known a.new) (D.known b.new)) }
-        ensures other { by_slot (spare_of self.old) (D.known b.new) (D.known a.new) ≡ by_slot (spare_of self.old) (D.known b.old) (D.known a.old) }
-        ensures form { IsErrOf result SaveError.DiskFault → IsCheckpoint cat.now.tables (checkpoint_of (length cat.now.tables) (first_head txns place) (R.held rows.now)) }
-
-        // Afterwards it has the checkpoint, and nothing else was written; the slots are known again.
-        ensures saved { OnOk result (BothKnown (λ old new. OneImage (HoldsRows cat.now.tables (first_head txns place) (R.held rows.now)) new.now) (by_slot (spare_of self.old) (D.known a.old) (D.known b.old)) (by_slot (spare_of self.old) (D.known a.new) (D.known b.new))) }
-        ensures durable { OnOk result (BothKnown (IsDurable 0 (1 ∷ checkpoint_bytes (checkpoint_of (length cat.now.tables) (first_head txns place) (R.held rows.now)))) (by_slot (spare_of self.old) (D.known a.old) (D.known b.old)) (by_slot (spare_of self.old) (D.known a.new) (D.known b.new))) }
-        ensures slots { OnOk result (self.new ≡ saved_slots (first_head txns place) self.old) }
-        ensures known_a { OnOk result (IfKnown (λ new. OneImage (IsSlot cat.now.tables self.new.a) new.now) (D.known a.new)) }
-        ensures known_b { OnOk result (IfKnown (λ new. OneImage (IsSlot cat.now.tables self.new.b) new.now) (D.known b.new)) }
-
-        // When each refusal comes.
-        ensures too_large { (bytes : ℕ) → IsErrOf result (SaveError.TooLarge bytes) → (MAX_SLOT_LEN < bytes) × (bytes ≡ 1 + length (checkpoint_bytes (checkpoint_of (length cat.now.tables) (first_head txns place) (R.held rows.now)))) }
-        ensures room { OnOk result (1 + length (checkpoint_bytes (checkpoint_of (length cat.now.tables) (first_head txns place) (R.held rows.now))) ≤ MAX_SLOT_LEN) }
-        ensures failed { IsErrOf result SaveError.DiskFault → self.new ≡ record self.old { has_failed = true } }
-        ensures refused { (cause : ASaveError) → IsErrOf result cause → ¬ (cause ≡ SaveError.DiskFault) → (self.new ≡ self.old) × (a.new ≡ a.old) × (b.new ≡ b.old) }
-
-        // No call of a device comes after one that failed.
-        ensures disk_fault { IsErrOf result SaveError.DiskFault → EitherFaulted (D.faults a.old) (D.faults a.new) (D.faults b.old) (D.faults b.new) }
-        ensures quiet_a { ¬ IsErrOf result SaveError.DiskFault → D.faults a.new ≡ D.faults a.old }
-        ensures quiet_b { ¬ IsErrOf result SaveError.DiskFault → D.faults b.new ≡ D.faults b.old }
-    {
-        let head = Head {
-            txns,
-            place,
-            form: SlotForm::First,
-        };
-        let text = checkpoint_text(alloc, cat, rows, head)?;
-        match self.spare() {
-            SlotName::A => fill(a, &mut self.a, &mut self.has_failed, head, &text),
-            SlotName::B => fill(b, &mut self.b, &mut self.has_failed, head, &text),
         }
     }
 }

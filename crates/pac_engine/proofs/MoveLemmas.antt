@@ -9,15 +9,17 @@ use Rattle.pac_request.specs.declared.request.Request.{Request}
 use Rattle.pac_request.specs.declared.request.Request.TheVariants as request
 use Rattle.pac_request.specs.declared.request.Reply.{Reply}
 use Rattle.pac_request.specs.declared.request.Reply.TheVariants as reply
+use Rattle.pac_log.specs.declared.limits.TheConstants.{MAX_BASE}
 use Rattle.pac_check.specs.declared.info.SlotInfo.{SlotInfo}
 use Rattle.pac_check.specs.declared.info.SlotName.TheVariants.{A}
 use Rattle.pac_check.specs.SlotStates.{saved_txns}
+use Rattle.pac_store.specs.Stands.{reach_of}
 use Rattle.pac_session.specs.Session.{SessionState, answer, after_asked, commits_asked, committed_by, reply_by, txn_of, txn_outcome}
 use Rattle.pac_session.specs.Open.{Open, rules_of, state_now, with_asked, with_run}
 use Rattle.pac_engine.specs.declared.parts.EngineParts.{EngineParts}
 use Rattle.pac_engine.specs.Closing.{IsKept}
 use Rattle.pac_engine.specs.Moves.{AreHeld, IsHeldBy, IsWorking}
-use Rattle.pac_engine.specs.Standing.{durable_of, reach_of, saved_of}
+use Rattle.pac_engine.specs.Standing.{durable_of, saved_of}
 
 -- ---- a request whose transaction is executed
 
@@ -74,7 +76,7 @@ pub all-held-kept : (e : EngineParts) (n : ℕ) → n ≤ durable_of e → (xs :
 all-held-kept e n le [] all = tt
 all-held-kept e n le (x ∷ xs) all = (held-kept e n le x all.0, all-held-kept e n le xs all.1)
 
-pub kept-and-saved : (e : EngineParts) (n : ℕ) (xs : List Reply) → n < saved_of e → AllByRecursion (IsKept e) xs → AllByRecursion (IsKept e) (xs ++ reply.Saved n ∷ [])
+pub kept-and-saved : (e : EngineParts) (n : ℕ) (xs : List Reply) → (n ≤ MAX_BASE → n < saved_of e) → AllByRecursion (IsKept e) xs → AllByRecursion (IsKept e) (xs ++ reply.Saved n ∷ [])
 kept-and-saved e n [] le all = (le, tt)
 kept-and-saved e n (x ∷ xs) le all = (all.0, kept-and-saved e n xs le all.1)
 

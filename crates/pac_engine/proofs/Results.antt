@@ -13,9 +13,9 @@ pub if-err : {T E : Type 0} {P Q : E → Type 0} (result : Result T E) → IfErr
 if-err (Ok x) has step = tt
 if-err (Err e) has step = step e has
 
-pub if-err-four : {T E : Type 0} {P Q R S U : E → Type 0} (result : Result T E) → IfErr result P → IfErr result Q → IfErr result R → IfErr result S → ((e : E) → P e → Q e → R e → S e → U e) → IfErr result U
-if-err-four (Ok x) p q r s step = tt
-if-err-four (Err e) p q r s step = step e p q r s
+pub if-err-five : {T E : Type 0} {P Q R S U V : E → Type 0} (result : Result T E) → IfErr result P → IfErr result Q → IfErr result R → IfErr result S → IfErr result U → ((e : E) → P e → Q e → R e → S e → U e → V e) → IfErr result V
+if-err-five (Ok x) p q r s u step = tt
+if-err-five (Err e) p q r s u step = step e p q r s u
 
 pub on-ok : {T E : Type 0} {P Q : Type 0} (result : Result T E) → OnOk result P → (P → Q) → OnOk result Q
 on-ok (Ok x) has step = step has

@@ -1,50 +1,48 @@
--- What an engine stands for on its devices: while its log and its slots are called, and from one move to the next.
-use Rattle.std.proofs.Common.{◌≡◌, ◌∙◌, ◌⊎◌, inl, inr, ⊎_elim, ℕ, ◌+◌, ◌<◌, ◌≤◌, List, [], ◌∷◌, ◌++◌, length, take, Option, Some, None, Result, Ok, Err, refl, sym, ap, subst, arith, append_assoc, length-append}
+-- What an engine stands for on its devices: while its log is called, and from one move to the next.
+use Rattle.std.proofs.Common.{◌≡◌, ◌∙◌, ◌⊎◌, inl, inr, ⊎_elim, ℕ, ◌+◌, ◌≤◌, List, [], ◌∷◌, ◌++◌, length, Option, Some, None, Result, Ok, Err, refl, sym, ap, subst, arith, append_assoc, length-append}
 use Rattle.std.specs.FinMap.{empty}
-use Rattle.std.proofs.lemmas.List.{append-nil, take-append-le}
+use Rattle.std.proofs.lemmas.List.{append-nil}
 use Rattle.std.proofs.lemmas.List.Elements.{All-append, All-cons, All-nil}
 use Rattle.std.specs.List.{All}
 use Rattle.pac_value.specs.State.{Tables}
 use Rattle.pac_ops.specs.declared.transaction.Txn.{Txn}
-use Rattle.pac_outside.specs.Disk.{DiskHistory, IsImage}
-use Rattle.pac_outside.specs.Devices.{AllLeave, RunLeaves}
+use Rattle.pac_outside.specs.Disk.{DiskHistory, DiskState, IsImage, LeavesOnly}
+use Rattle.pac_outside.specs.Devices.{AllLeave, RunLeaves, log_at, log_named, with_device}
 use Rattle.pac_outside.specs.Devices.RunLeaves.{rests}
-use Rattle.pac_outside.specs.Devices.WhichDevice.{the_log}
+use Rattle.pac_outside.specs.Devices.WhichDevice.{the_log, the_log_b}
+use Rattle.pac_outside.specs.GateByte.{OneImage}
 use Rattle.pac_outside.proofs.Histories.{weaken}
-use Rattle.pac_outside.proofs.Runs.{three, run_then, run_end, weaken_run}
+use Rattle.pac_outside.proofs.Runs.{OthersAre, device_runs, run_then, run_end, weaken_run}
 use Rattle.pac_outside.specs.declared.devices.Devices.{Devices}
+use Rattle.pac_outside.specs.declared.devices.LogName.{LogName}
+use Rattle.pac_outside.specs.declared.devices.LogName.TheVariants.{Log, LogB}
 use Rattle.pac_types.specs.Fits.{TxnFits}
 use Rattle.pac_types.specs.Typing.{CatalogueState}
 use Rattle.pac_serial.specs.declared.execute.ExecError.{ExecError}
 use Rattle.pac_request.specs.declared.request.Request.{Request}
-use Rattle.pac_log.specs.declared.header.HeaderForm.TheVariants.{First}
-use Rattle.pac_log.specs.Logs.{HoldsLog, all_txns, header_with}
+use Rattle.pac_log.specs.declared.header.Header.{Header}
+use Rattle.pac_log.specs.Logs.{HoldsLog, all_txns, base_in, header_with, number_after}
 use Rattle.pac_log.specs.Places.{IsAfter}
 use Rattle.pac_log.proofs.LogLemmas.{all_txns-append}
-use Rattle.pac_log.proofs.OneGate.{few, stays}
-use Rattle.pac_check.specs.declared.head.Head.{Head}
+use Rattle.pac_log.proofs.OneGate.{stays}
 use Rattle.pac_check.specs.declared.info.SlotInfo.{SlotInfo}
-use Rattle.pac_check.specs.declared.info.SlotName.{SlotName}
-use Rattle.pac_check.specs.declared.info.SlotName.TheVariants.{A, B}
-use Rattle.pac_check.specs.declared.slots.Slots.{Slots}
-use Rattle.pac_check.specs.declared.damage.SlotFault.{SlotFault}
 use Rattle.pac_check.specs.declared.state.SlotState.{SlotState}
-use Rattle.pac_check.specs.declared.state.SlotState.TheVariants.{Empty, Closed, Open}
-use Rattle.pac_check.specs.SlotStates.{info_of, info_with, newest_of, IsSlot}
-use Rattle.pac_check.specs.Saved.{checkpoint_of}
+use Rattle.pac_check.specs.SlotStates.{active_of, newest_of}
 use Rattle.pac_store.specs.Images.{Images}
-use Rattle.pac_store.specs.Stands.{EndsWith, HasSaved, HoldsSaved, IsHistory, IsShutOrPrefix}
-use Rattle.pac_store.proofs.CallLemmas.{device-runs}
-use Rattle.pac_store.proofs.ImageLemmas.{devices-same}
-use Rattle.pac_store.proofs.StandsLemmas.{fewer, fewer-saved, longer, few-tables, newest-one, readable}
+use Rattle.pac_store.specs.Saving.{KeepsBy, KnownStore, last_number}
+use Rattle.pac_store.specs.Stands.{IsHistory, IsShutOrPrefix, StandsFor}
+use Rattle.pac_store.specs.Stored.{IsPlaced}
+use Rattle.pac_store.specs.Writing.{known_with}
+use Rattle.pac_store.proofs.SavingLemmas.{image-of, saved-in, stands, still-leaves}
+use Rattle.pac_store.proofs.StandsLemmas.{fewer, fewer-saved, longer, prefix-longer, prefix-within}
 use Rattle.pac_session.specs.Session.{Rules, SessionState, commits, commits_asked, committed_by, state_after, txn_of, txn_outcome}
 use Rattle.pac_session.specs.Open.{rules_of, state_now}
 use Rattle.pac_session.proofs.SessionLemmas.{after-serial, serial-then}
 use Rattle.pac_engine.specs.declared.parts.EngineParts.{EngineParts}
 use Rattle.pac_engine.specs.Committing.{HasAdded, MayAdd, gate_past, with_batch}
 use Rattle.pac_engine.specs.Moves.{committed_parts, with_request}
-use Rattle.pac_engine.specs.Standing.{EngineStands, KeepsHistory, MayLeave, StandsWith, durable_of, reach_of, saved_of}
-use Rattle.pac_engine.proofs.DeviceLemmas.{image-of}
+use Rattle.pac_engine.specs.Standing.{KeepsHistory, MayLeave, StandsOn, StandsWith, durable_of, saved_of}
+use Rattle.pac_engine.proofs.DeviceLemmas.{image-there, put-a, put-b, put-log}
 
 -- ---- a log with the transactions of a group after it
 
@@ -52,51 +50,14 @@ pub all-with : (batches : List (List Txn)) (txns : List Txn) → all_txns (with_
 all-with batches [] = sym (append-nil (all_txns batches))
 all-with batches (txn ∷ txns) = all_txns-append batches ((txn ∷ txns) ∷ []) ∙ ap (λ (l : List Txn). all_txns batches ++ l) (append-nil (txn ∷ txns))
 
--- a checkpoint of a log's prefix is one of a longer log's
-pub prefix-more : (text : List ℕ) (catalogue : CatalogueState) (batches : List (List Txn)) (txns : List Txn) (image : List ℕ) → IsShutOrPrefix text catalogue batches image → IsShutOrPrefix text catalogue (with_batch batches txns) image
-prefix-more text catalogue batches [] image is = is
-prefix-more text catalogue batches (txn ∷ txns) image (inl shut) = inl shut
-prefix-more text catalogue batches (txn ∷ txns) image (inr prefix) =
-    let more : List (List Txn) = (txn ∷ txns) ∷ [] in
-    let same : take prefix.head.txns (all_txns (batches ++ more)) ≡ take prefix.head.txns (all_txns batches)
-    = ap (λ (l : List Txn). take prefix.head.txns l) (all_txns-append batches more) ∙ take-append-le prefix.head.txns (all_txns batches) (all_txns more) (omega (arith, few (header_with First text) batches prefix.head.place prefix.head.txns prefix.gate)) in
-    inr (record {
-      head = prefix.head;
-      held = prefix.held;
-      fit = prefix.fit;
-      rows = prefix.rows;
-      names = prefix.names;
-      gate = stays (header_with First text) batches more prefix.head.place prefix.head.txns prefix.gate;
-      ends = subst (λ (l : List Txn). EndsWith catalogue l prefix.held) (sym same) prefix.ends;
-    })
+number-with : (header : Header) (batches : List (List Txn)) (txns : List Txn) → number_after header (with_batch batches txns) ≡ number_after header batches + length txns
+number-with header batches txns = omega (arith, ap (λ (l : List Txn). length l) (all-with batches txns), length-append (all_txns batches) txns)
 
--- ---- what is saved
-
-same-state : (a b : SlotState) → ◌≡◌ {A = Result SlotState SlotFault} (Ok a) (Ok b) → a ≡ b
-same-state a b e = cc
-
-pub some-open : (slot : SlotName) (state : SlotState) (info : SlotInfo) → info_of slot state ≡ Some info → (head : Head) × (state ≡ Open head) × (info.txns ≡ head.txns) × (info.slot ≡ slot)
-some-open slot Empty info e = absurd cc
-some-open slot Closed info e = absurd cc
-some-open slot (Open head) info e = let same : info ≡ info_with slot head = cc in (head, refl, ap (λ (i : SlotInfo). i.txns) same, ap (λ (i : SlotInfo). i.slot) same)
-
-module _ (text : List ℕ) (catalogue : CatalogueState) (few_tables : length catalogue.tables < 65536) (batches : List (List Txn)) where
-  -- an open slot has a checkpoint with the number that is known of it
-  pub open-saved : (image : List ℕ) (state : SlotState) → IsShutOrPrefix text catalogue batches image → IsSlot catalogue.tables state image → (slot : SlotName) (info : SlotInfo) → info_of slot state ≡ Some info → HasSaved catalogue (info.txns + 1) image
-  open-saved image state is known slot info e =
-      let read = readable text catalogue few_tables batches image is in
-      let found = some-open slot state info e in
-      let prefix = read.prefix found.0 (same-state read.state state (sym read.is ∙ known) ∙ found.1) in
-      record { checkpoint = checkpoint_of (length catalogue.tables) found.0 prefix.0; holds = prefix.2; enough = omega (arith, found.2) }
-
-  -- so the newest slot has one
-  pub saved-now : (slots : Slots) (images : Images) → IsShutOrPrefix text catalogue batches images.slot_a → IsShutOrPrefix text catalogue batches images.slot_b
-      → IsSlot catalogue.tables slots.a images.slot_a → IsSlot catalogue.tables slots.b images.slot_b → HoldsSaved catalogue (reach_of (newest_of slots)) images
-  saved-now slots images is_a is_b known_a known_b = go (newest_of slots) refl
-    where
-      go : (newest : Option SlotInfo) → newest_of slots ≡ newest → HoldsSaved catalogue (reach_of newest) images
-      go None e = inl refl
-      go (Some info) e = ⊎_elim (λ a. inr (inl (open-saved images.slot_a slots.a is_a known_a A info a))) (λ b. inr (inr (open-saved images.slot_b slots.b is_b known_b B info b))) (newest-one (info_of A slots.a) (info_of B slots.b) info e)
+-- a gate of a log is one of a longer one
+placed-with : (header : Header) (batches : List (List Txn)) (txns : List Txn) (newest : Option SlotInfo) → IsPlaced header batches newest → IsPlaced header (with_batch batches txns) newest
+placed-with header batches [] newest is = is
+placed-with header batches (txn ∷ txns) None is = is
+placed-with header batches (txn ∷ txns) (Some info) is = stays header batches ((txn ∷ txns) ∷ []) info.place info.txns is
 
 -- ---- what the devices leave
 
@@ -106,39 +67,26 @@ stands-less text catalogue history least saved least' saved' images le le' is = 
 pub stands-longer : (text : List ℕ) (catalogue : CatalogueState) (history more : List Txn) (least saved : ℕ) (images : Images) → IsHistory catalogue (history ++ more) → StandsWith text catalogue history least saved images → StandsWith text catalogue (history ++ more) least saved images
 stands-longer text catalogue history more least saved images executes is = record { stands = longer text catalogue history more least images executes is.stands; saves = is.saves }
 
-module _ (text : List ℕ) (history : List Txn) (e : EngineParts) (l a b : DiskHistory) (is : EngineStands text history e l a b) where
+module _ (text : List ℕ) (history : List Txn) (e : EngineParts) (devices : Devices DiskHistory) (is : StandsOn text history e devices) where
   abbrev cat : CatalogueState
   cat = e.session.catalogue
 
-  abbrev Kept : Images → Type 0
-  Kept images = StandsWith text cat history (durable_of e) (saved_of e) images
+  abbrev known : KnownStore
+  known = known_with e.slots is.form is.batches
 
-  pub tables-few : length cat.tables < 65536
-  tables-few = few-tables text cat is.log.has.log.accepted.has
+  pub durable-is : durable_of e ≡ last_number text (known_with e.slots is.form is.batches)
+  durable-is = is.after.txns
 
-  pub executes-it : IsHistory cat history
-  executes-it = record { fit = is.fit; held = e.session.tables; ends = is.ends }
-
-  pub durable-is : durable_of e ≡ length (all_txns is.batches)
-  durable-is = omega (arith, is.after.txns)
-
-  -- the log has a prefix of the history, and each slot is shut or has a checkpoint of that
-  pub stands-at : (batches : List (List Txn)) (later : List Txn) (images : Images) → HoldsLog (header_with First text) cat batches images.log → history ≡ all_txns batches ++ later → durable_of e ≤ length (all_txns batches)
-      → IsShutOrPrefix text cat batches images.slot_a → IsShutOrPrefix text cat batches images.slot_b → HoldsSaved cat (saved_of e) images → Kept images
-  stands-at batches later images log prefix enough is_a is_b saves = record {
-    stands = record { executes = executes-it; batches = batches; log = log; later = later; prefix = prefix; enough = enough; slot_a = is_a; slot_b = is_b };
-    saves = saves;
-  }
-
-  pub saved-here : (log : List ℕ) → HoldsSaved cat (saved_of e) (three log a.now.seen b.now.seen)
-  saved-here log = saved-now text cat tables-few is.batches e.slots (three log a.now.seen b.now.seen) is.slot_a.has is.slot_b.has is.known_a is.known_b
+  -- what is kept of the devices is what may be left
+  pub may-of : (name : LogName) (images : Images) → KeepsBy name text e.session.catalogue history (known_with e.slots is.form is.batches) images → MayLeave text e.session.catalogue history e images
+  may-of name images keeps = record { stands = subst (λ (n : ℕ). StandsFor text cat history n images) (sym durable-is) keeps.0.0; saves = keeps.1 }
 
   -- each image of the devices stands for the history
-  pub stands-now : AllLeave (MayLeave text cat history e) (three l a b)
-  stands-now = λ images are.
-      let all : images ≡ three l.now.seen a.now.seen b.now.seen = devices-same images.log images.slot_a images.slot_b l.now.seen a.now.seen b.now.seen
-      (image-of _ l.now is.log images.log are.log) (image-of _ a.now is.slot_a images.slot_a are.slot_a) (image-of _ b.now is.slot_b images.slot_b are.slot_b) in
-      subst Kept (sym all) (stands-at is.batches e.session.txns (three l.now.seen a.now.seen b.now.seen) is.log.has is.split (omega (arith, durable-is)) is.slot_a.has is.slot_b.has (saved-here l.now.seen))
+  pub stands-now : AllLeave (MayLeave text e.session.catalogue history e) devices
+  stands-now images are = may-of (active_of e.slots) images (still-leaves text cat history known devices is.still images are)
+
+  pub long-is : length history ≡ durable_of e + length e.session.txns
+  long-is = omega (arith, ap (λ (t : List Txn). length t) is.still.split, length-append is.still.earlier (all_txns is.batches ++ is.still.later), length-append (all_txns is.batches) is.still.later, is.still.before, ap (λ (t : List Txn). length t) is.later, durable-is)
 
 -- where what is durable and saved is as it was, a crash leaves what it left
 pub leave-same : (text : List ℕ) (catalogue : CatalogueState) (history : List Txn) (before now : EngineParts) (devices : Devices DiskHistory) → durable_of now ≡ durable_of before → saved_of now ≡ saved_of before
@@ -148,54 +96,86 @@ leave-same text catalogue history before now devices durable saved leaves = λ i
 
 -- ---- a commit
 
-module _ (text : List ℕ) (history : List Txn) (e : EngineParts) (l a b : DiskHistory) (is : EngineStands text history e l a b) (n : DiskHistory) (may : MayAdd (header_with First text) e.session.catalogue is.batches e.session.txns l n) where
+module _ (text : List ℕ) (history : List Txn) (e : EngineParts) (devices : Devices DiskHistory) (is : StandsOn text history e devices) (n : DiskHistory)
+    (may : MayAdd (header_with is.form text) e.session.catalogue is.batches e.session.txns (log_at (active_of e.slots) devices) n) where
   abbrev more : List (List Txn)
   more = with_batch is.batches e.session.txns
 
-  more-split : history ≡ all_txns more ++ []
-  more-split = is.split ∙ sym (all-with is.batches e.session.txns) ∙ sym (append-nil (all_txns more))
+  abbrev header : Header
+  header = header_with is.form text
 
-  more-enough : durable_of e ≤ length (all_txns more)
-  more-enough = omega (arith, durable-is text history e l a b is, ap (λ (t : List Txn). length t) (all-with is.batches e.session.txns), length-append (all_txns is.batches) e.session.txns)
+  more-split : history ≡ is.still.earlier ++ (all_txns more ++ [])
+  more-split = is.still.split ∙ ap (λ (t : List Txn). is.still.earlier ++ (all_txns is.batches ++ t)) is.later ∙ ap (λ (t : List Txn). is.still.earlier ++ t) (sym (all-with is.batches e.session.txns) ∙ sym (append-nil (all_txns more)))
+
+  more-prefix : (state : SlotState) (image : List ℕ) → IsShutOrPrefix e.session.catalogue history (number_after header is.batches) state image → IsShutOrPrefix e.session.catalogue history (number_after header more) state image
+  more-prefix state image prefix = prefix-within e.session.catalogue history (number_after header is.batches) (number_after header more) state image (omega (arith, number-with header is.batches e.session.txns)) prefix
 
   abbrev Left : Images → Type 0
-  Left images = StandsWith text e.session.catalogue history (durable_of e) (saved_of e) images
+  Left images = MayLeave text e.session.catalogue history e images
 
-  old-or-new : (i : List ℕ) → HoldsLog (header_with First text) e.session.catalogue is.batches i ⊎ HoldsLog (header_with First text) e.session.catalogue more i → Left (three i a.now.seen b.now.seen)
-  old-or-new i which = ⊎_elim
-      (λ old. stands-at text history e l a b is is.batches e.session.txns (three i a.now.seen b.now.seen) old is.split (omega (arith, durable-is text history e l a b is)) is.slot_a.has is.slot_b.has (saved-here text history e l a b is i))
-      (λ new. stands-at text history e l a b is more [] (three i a.now.seen b.now.seen) new more-split more-enough
-      (prefix-more text e.session.catalogue is.batches e.session.txns a.now.seen is.slot_a.has) (prefix-more text e.session.catalogue is.batches e.session.txns b.now.seen is.slot_b.has) (saved-here text history e l a b is i)) which
+  abbrev Either : List ℕ → Type 0
+  Either image = HoldsLog header e.session.catalogue is.batches image ⊎ HoldsLog header e.session.catalogue more image
 
-  pub commit-run : RunLeaves (MayLeave text e.session.catalogue history e) (three l a b) (three n a b)
-  commit-run = device-runs Left the_log (three l a b) n (λ i. HoldsLog (header_with First text) e.session.catalogue is.batches i ⊎ HoldsLog (header_with First text) e.session.catalogue more i)
-      (λ state leaves images are. subst (λ (y : List ℕ). Left (three images.log images.slot_a y)) (sym (image-of _ b.now is.slot_b images.slot_b are.slot_b))
-      (subst (λ (x : List ℕ). Left (three images.log x b.now.seen)) (sym (image-of _ a.now is.slot_a images.slot_a are.slot_a)) (old-or-new images.log (leaves images.log are.log))))
-      (may is.log)
+  -- images of the slots, and of a log that has these batches
+  left-with : (batches : List (List Txn)) (later : List Txn) (images : Images) → IsImage devices.slot_a.now images.slot_a → IsImage devices.slot_b.now images.slot_b → history ≡ is.still.earlier ++ (all_txns batches ++ later) → number_after header is.batches ≤ number_after header batches
+      → IsPlaced header batches (newest_of e.slots) → HoldsLog header e.session.catalogue batches (log_at (active_of e.slots) images) → Left images
+  left-with batches later images is_a is_b split enough placed log =
+      let a : IsShutOrPrefix e.session.catalogue history (number_after header is.batches) e.slots.a images.slot_a = image-there _ devices.slot_a.now is.still.slot_a images.slot_a is_a in
+      let b : IsShutOrPrefix e.session.catalogue history (number_after header is.batches) e.slots.b images.slot_b = image-there _ devices.slot_b.now is.still.slot_b images.slot_b is_b in
+      record {
+        stands = (stands text e.session.catalogue history (known_with e.slots is.form batches) images (active_of e.slots) (durable_of e) is.still.executes
+            (prefix-within e.session.catalogue history (number_after header is.batches) (number_after header batches) e.slots.a images.slot_a enough a) (prefix-within e.session.catalogue history (number_after header is.batches) (number_after header batches) e.slots.b images.slot_b enough b)
+            refl log placed is.still.earlier later is.still.before split (omega (arith, enough, durable-is text history e devices is))).0;
+        saves = saved-in text e.session.catalogue history (number_after header is.batches) e.slots.a e.slots.b images a b;
+      }
 
-  pub commit-fails : (now : EngineParts) → durable_of now ≡ durable_of e → saved_of now ≡ saved_of e → KeepsHistory text history e now (three l a b) (three n a b)
+  old-or-new : (images : Images) → IsImage devices.slot_a.now images.slot_a → IsImage devices.slot_b.now images.slot_b → Either (log_at (active_of e.slots) images) → Left images
+  old-or-new images is_a is_b which = ⊎_elim
+      (λ old. left-with is.batches is.still.later images is_a is_b is.still.split (omega arith) is.still.placed old)
+      (λ new. left-with more [] images is_a is_b more-split (omega (arith, number-with header is.batches e.session.txns)) (placed-with header is.batches e.session.txns (newest_of e.slots) is.still.placed) new) which
+
+  pub commit-run : RunLeaves (MayLeave text e.session.catalogue history e) devices (with_device (log_named (active_of e.slots)) n devices)
+  commit-run = go (active_of e.slots) refl (may is.still.log)
+    where
+      here : (name : LogName) → active_of e.slots ≡ name → (images : Images) → IsImage devices.slot_a.now images.slot_a → IsImage devices.slot_b.now images.slot_b → Either (log_at name images) → Left images
+      here name same images is_a is_b which = old-or-new images is_a is_b (subst (λ (m : LogName). Either (log_at m images)) (sym same) which)
+
+      go : (name : LogName) → active_of e.slots ≡ name → LeavesOnly Either (log_at name devices) n → RunLeaves Left devices (with_device (log_named name) n devices)
+      go Log same run = device_runs Left the_log devices n (weaken Either (λ image. (images : Images) → OthersAre the_log devices images → Left (with_device the_log image images)) devices.log n
+          (λ image which images are. here Log same (with_device the_log image images) are.1 are.2 which) run)
+      go LogB same run = device_runs Left the_log_b devices n (weaken Either (λ image. (images : Images) → OthersAre the_log_b devices images → Left (with_device the_log_b image images)) devices.log_b n
+          (λ image which images are. here LogB same (with_device the_log_b image images) are.1 are.2 which) run)
+
+  pub commit-fails : (now : EngineParts) → durable_of now ≡ durable_of e → saved_of now ≡ saved_of e → KeepsHistory text history e now devices (with_device (log_named (active_of e.slots)) n devices)
   commit-fails now durable saved = record {
+    executes = is.still.executes;
     moments = commit-run;
-    end = leave-same text e.session.catalogue history e now (three n a b) durable saved (run_end (MayLeave text e.session.catalogue history e) (three l a b) (three n a b) commit-run);
+    end = leave-same text e.session.catalogue history e now (with_device (log_named (active_of e.slots)) n devices) durable saved (run_end (MayLeave text e.session.catalogue history e) devices (with_device (log_named (active_of e.slots)) n devices) commit-run);
   }
 
-  module _ (added : HasAdded (header_with First text) e.session.catalogue is.batches e.session.txns l n) (after : IsAfter (header_with First text) more (gate_past e.session.txns e.log.gate)) where
-    pub commit-stands : EngineStands text history (committed_parts e) n a b
+  module _ (added : HasAdded (header_with is.form text) e.session.catalogue is.batches e.session.txns (log_at (active_of e.slots) devices) n) (after : IsAfter (header_with is.form text) more (gate_past e.session.txns e.log.gate)) where
+    pub commit-stands : StandsOn text history (committed_parts e) (with_device (log_named (active_of e.slots)) n devices)
     commit-stands = record {
+      form = is.form;
       batches = more;
-      log = added is.log;
+      still = record {
+        executes = is.still.executes;
+        slot_a = subst (λ (d : DiskHistory). OneImage (IsShutOrPrefix e.session.catalogue history (number_after header more) e.slots.a) d.now) (sym (put-a (active_of e.slots) n devices)) (record { one = is.still.slot_a.one; has = more-prefix e.slots.a devices.slot_a.now.seen is.still.slot_a.has });
+        slot_b = subst (λ (d : DiskHistory). OneImage (IsShutOrPrefix e.session.catalogue history (number_after header more) e.slots.b) d.now) (sym (put-b (active_of e.slots) n devices)) (record { one = is.still.slot_b.one; has = more-prefix e.slots.b devices.slot_b.now.seen is.still.slot_b.has });
+        log = subst (λ (d : DiskHistory). OneImage (HoldsLog header e.session.catalogue more) d.now) (sym (put-log (active_of e.slots) n devices)) (added is.still.log);
+        placed = placed-with header is.batches e.session.txns (newest_of e.slots) is.still.placed;
+        earlier = is.still.earlier;
+        later = [];
+        before = is.still.before;
+        split = more-split;
+      };
       after = after;
-      slot_a = record { one = is.slot_a.one; has = prefix-more text e.session.catalogue is.batches e.session.txns a.now.seen is.slot_a.has };
-      slot_b = record { one = is.slot_b.one; has = prefix-more text e.session.catalogue is.batches e.session.txns b.now.seen is.slot_b.has };
-      known_a = is.known_a;
-      known_b = is.known_b;
-      fit = is.fit;
+      later = refl;
       ends = is.ends;
-      split = more-split;
     }
 
-    pub commit-keeps : KeepsHistory text history e (committed_parts e) (three l a b) (three n a b)
-    commit-keeps = record { moments = commit-run; end = stands-now text history (committed_parts e) n a b commit-stands }
+    pub commit-keeps : KeepsHistory text history e (committed_parts e) devices (with_device (log_named (active_of e.slots)) n devices)
+    commit-keeps = record { executes = is.still.executes; moments = commit-run; end = stands-now text history (committed_parts e) (with_device (log_named (active_of e.slots)) n devices) commit-stands }
 
 -- ---- a request is executed
 
@@ -212,39 +192,48 @@ module _ (text : List ℕ) (history : List Txn) (e : EngineParts) (asked : Reque
   abbrev asks : List Txn
   asks = commits (rules_of e.session) (state_now e.session) asked
 
-  pub asked-stands : (l a b : DiskHistory) → EngineStands text history e l a b → EngineStands text (history ++ asks) (with_request asked e) l a b
-  asked-stands l a b is =
-      let long : 1 + length history ≡ e.session.before + length e.session.txns + 1 = omega (arith, ap (λ (t : List Txn). length t) is.split, length-append (all_txns is.batches) e.session.txns, is.after.txns, counted) in
+  pub asked-stands : (devices : Devices DiskHistory) → StandsOn text history e devices → StandsOn text (history ++ commits (rules_of e.session) (state_now e.session) asked) (with_request asked e) devices
+  asked-stands devices is =
+      let long : 1 + length history ≡ e.session.before + length e.session.txns + 1 = omega (arith, long-is text history e devices is, counted) in
+      let within : number_after (header_with is.form text) is.batches ≤ length history = omega (arith, long-is text history e devices is, durable-is text history e devices is) in
+      let ends = serial-then e.session.catalogue.procs 1 history asks empty e.session.tables (state_after (rules_of e.session) (state_now e.session) asked).tables (e.session.before + length e.session.txns + 1) is.ends long
+      (after-serial (rules_of e.session) (state_now e.session) asked) in
       record {
+        form = is.form;
         batches = is.batches;
-        log = is.log;
+        still = record {
+          executes = record { fit = All-append (TxnFits e.session.catalogue) history asks is.still.executes.fit (commits-fit (rules_of e.session) (state_now e.session) (txn_of asked) fits); held = (state_after (rules_of e.session) (state_now e.session) asked).tables; ends = ends };
+          slot_a = record { one = is.still.slot_a.one; has = prefix-longer e.session.catalogue history asks (number_after (header_with is.form text) is.batches) e.slots.a devices.slot_a.now.seen within is.still.slot_a.has };
+          slot_b = record { one = is.still.slot_b.one; has = prefix-longer e.session.catalogue history asks (number_after (header_with is.form text) is.batches) e.slots.b devices.slot_b.now.seen within is.still.slot_b.has };
+          log = is.still.log;
+          placed = is.still.placed;
+          earlier = is.still.earlier;
+          later = is.still.later ++ asks;
+          before = is.still.before;
+          split = ap (λ (t : List Txn). t ++ asks) is.still.split ∙ append_assoc is.still.earlier (all_txns is.batches ++ is.still.later) asks ∙ ap (λ (t : List Txn). is.still.earlier ++ t) (append_assoc (all_txns is.batches) is.still.later asks);
+        };
         after = is.after;
-        slot_a = is.slot_a;
-        slot_b = is.slot_b;
-        known_a = is.known_a;
-        known_b = is.known_b;
-        fit = All-append (TxnFits e.session.catalogue) history asks is.fit (commits-fit (rules_of e.session) (state_now e.session) (txn_of asked) fits);
-        ends = serial-then e.session.catalogue.procs 1 history asks empty e.session.tables (state_after (rules_of e.session) (state_now e.session) asked).tables (e.session.before + length e.session.txns + 1) is.ends long
-            (after-serial (rules_of e.session) (state_now e.session) asked);
-        split = ap (λ (t : List Txn). t ++ asks) is.split ∙ append_assoc (all_txns is.batches) e.session.txns asks;
+        later = ap (λ (t : List Txn). t ++ asks) is.later;
+        ends = ends;
       }
 
-  pub asked-history : (l a b : DiskHistory) → EngineStands text history e l a b → IsHistory e.session.catalogue (history ++ asks)
-  asked-history l a b is = executes-it text (history ++ asks) (with_request asked e) l a b (asked-stands l a b is)
+  pub asked-history : (devices : Devices DiskHistory) → StandsOn text history e devices → IsHistory e.session.catalogue (history ++ commits (rules_of e.session) (state_now e.session) asked)
+  asked-history devices is = (asked-stands devices is).still.executes
 
   -- no device is called
-  pub asked-keeps : (now : EngineParts) → durable_of now ≡ durable_of e → saved_of now ≡ saved_of e → (l a b : DiskHistory) → EngineStands text history e l a b → KeepsHistory text (history ++ asks) e now (three l a b) (three l a b)
-  asked-keeps now durable saved l a b is =
-      let leaves : AllLeave (MayLeave text e.session.catalogue (history ++ asks) e) (three l a b) = stands-now text (history ++ asks) (with_request asked e) l a b (asked-stands l a b is) in
-      record { moments = rests (three l a b) leaves; end = leave-same text e.session.catalogue (history ++ asks) e now (three l a b) durable saved leaves }
+  pub asked-keeps : (now : EngineParts) → durable_of now ≡ durable_of e → saved_of now ≡ saved_of e → (devices : Devices DiskHistory) → StandsOn text history e devices → KeepsHistory text (history ++ commits (rules_of e.session) (state_now e.session) asked) e now devices devices
+  asked-keeps now durable saved devices is =
+      let leaves : AllLeave (MayLeave text e.session.catalogue (history ++ asks) e) devices = stands-now text (history ++ asks) (with_request asked e) devices (asked-stands devices is) in
+      record { executes = asked-history devices is; moments = rests devices leaves; end = leave-same text e.session.catalogue (history ++ asks) e now devices durable saved leaves }
 
 -- ---- from one move to the next
 
 pub keeps-as : (text : List ℕ) (history : List Txn) (before now other : EngineParts) (old new : Devices DiskHistory) → durable_of other ≡ durable_of now → saved_of other ≡ saved_of now → KeepsHistory text history before now old new → KeepsHistory text history before other old new
-keeps-as text history before now other old new durable saved keeps = record { moments = keeps.moments; end = leave-same text before.session.catalogue history now other new durable saved keeps.end }
+keeps-as text history before now other old new durable saved keeps = record { executes = keeps.executes; moments = keeps.moments; end = leave-same text before.session.catalogue history now other new durable saved keeps.end }
 
 pub keeps-longer : (text : List ℕ) (history more : List Txn) (before now : EngineParts) (old new : Devices DiskHistory) → IsHistory before.session.catalogue (history ++ more) → KeepsHistory text history before now old new → KeepsHistory text (history ++ more) before now old new
 keeps-longer text history more before now old new executes keeps = record {
+  executes = executes;
   moments = weaken_run (MayLeave text before.session.catalogue history before) (MayLeave text before.session.catalogue (history ++ more) before)
       (λ i s. stands-longer text before.session.catalogue history more (durable_of before) (saved_of before) i executes s) old new keeps.moments;
   end = λ images are. stands-longer text before.session.catalogue history more (durable_of now) (saved_of now) images executes (keeps.end images are);
@@ -255,6 +244,7 @@ pub keeps-then : (text : List ℕ) (history : List Txn) (a b c : EngineParts) (x
 keeps-then text history a b c x y z same durable saved first second =
     let moments : RunLeaves (MayLeave text a.session.catalogue history b) y z = subst (λ (cat : CatalogueState). RunLeaves (MayLeave text cat history b) y z) same second.moments in
     record {
+      executes = first.executes;
       moments = run_then (MayLeave text a.session.catalogue history a) x y z first.moments
           (weaken_run (MayLeave text a.session.catalogue history b) (MayLeave text a.session.catalogue history a)
           (λ i s. stands-less text a.session.catalogue history (durable_of b) (saved_of b) (durable_of a) (saved_of a) i durable saved s) y z moments);

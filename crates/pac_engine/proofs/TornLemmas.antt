@@ -1,8 +1,9 @@
 -- Where the log may end, when a group was not committed.
-use Rattle.std.proofs.Common.{◌≡◌, inl, inr, ℕ, ◌+◌, ◌<◌, List, length, Option, Some, None, refl, sym, ap, subst}
+use Rattle.std.proofs.Common.{◌≡◌, inl, inr, ℕ, ◌+◌, ◌<◌, List, length, Option, Some, None, refl, sym, ap, ap₂, subst, ◌∙◌}
 use Rattle.pac_ops.specs.declared.transaction.Txn.{Txn}
 use Rattle.pac_outside.specs.declared.devices.Devices.{Devices}
-use Rattle.pac_outside.specs.Devices.{each}
+use Rattle.pac_outside.specs.Devices.{each, log_at}
+use Rattle.pac_outside.specs.declared.devices.LogName.{LogName}
 use Rattle.pac_outside.specs.Disk.{DiskHistory, DiskState, IfKnown, IsImage, settled}
 use Rattle.pac_log.specs.declared.position.NextGate.{NextGate}
 use Rattle.pac_log.specs.Bodies.{body_bytes}
@@ -11,14 +12,16 @@ use Rattle.pac_log.specs.Logs.{HoldsLog}
 use Rattle.pac_log.specs.Places.{LogEndsAt}
 use Rattle.pac_log.specs.Torn.{LogEndsAtEither}
 use Rattle.pac_request.specs.declared.request.Request.{Request}
+use Rattle.pac_check.specs.SlotStates.{active_of, by_slot, spare_of}
+use Rattle.pac_session.specs.Groups.{LogSpot}
 use Rattle.pac_session.specs.Session.{Rules, SessionState}
 use Rattle.pac_engine.specs.declared.parts.EngineParts.{EngineParts}
-use Rattle.pac_engine.specs.Closing.{IsGateAfter, MayEndAfter}
+use Rattle.pac_engine.specs.Closing.{IsGateUnsaved, MayEndAfter}
 use Rattle.pac_engine.specs.Committing.{gate_past}
 use Rattle.pac_engine.specs.Moves.{committed_parts}
 use Rattle.pac_engine.specs.Standing.{HasDevices}
 use Rattle.pac_engine.proofs.CommitLemmas.{some_gate}
-use Rattle.pac_engine.proofs.DeviceLemmas.{image-of}
+use Rattle.pac_engine.proofs.DeviceLemmas.{image-of, log-each}
 
 -- the image of a log that ends at a gate
 settled-at : (gate : NextGate) (state : DiskState) → LogEndsAt gate state → (image : List ℕ) → IsImage state image → LogEndsAt gate (settled image)
@@ -46,14 +49,26 @@ torn-past txns some old now same known torn =
     (subst (λ (gate : NextGate). IfKnown (λ h. LogEndsAtEither gate (gate_after (length txns) (1 + length (body_bytes txns)) now) h.now) known) same torn)
 
 module _ {D : Type 0} (known : D → Option DiskHistory) where
-  -- the group was committed, and then a slot failed
-  pub torn-saved : (e mid : EngineParts) (middle new : Devices D) → mid ≡ committed_parts e → HasDevices known mid middle → new.log ≡ middle.log
-      → IfKnown (λ h. LogEndsAtEither e.log.gate (gate_past e.session.txns e.log.gate) h.now) (known new.log)
+  -- the group was committed, and then a save failed
+  pub torn-saved : (e mid : EngineParts) (middle new : Devices D) → mid ≡ committed_parts e → HasDevices known mid middle → log_at (active_of mid.slots) new ≡ log_at (active_of mid.slots) middle
+      → IfKnown (λ h. LogEndsAtEither e.log.gate (gate_past e.session.txns e.log.gate) h.now) (known (log_at (active_of e.slots) new))
   torn-saved e mid middle new closed has same =
-      ends-there e.log.gate (gate_past e.session.txns e.log.gate) (known new.log)
+      subst (λ (p : EngineParts). IfKnown (λ h. LogEndsAtEither e.log.gate (gate_past e.session.txns e.log.gate) h.now) (known (log_at (active_of p.slots) new))) closed
+      (ends-there e.log.gate (gate_past e.session.txns e.log.gate) (known (log_at (active_of mid.slots) new))
       (subst (λ (log : Option DiskHistory). IfKnown (λ h. LogEndsAt (gate_past e.session.txns e.log.gate) h.now) log) (sym (ap known same))
-      (subst (λ (p : EngineParts). IfKnown (λ h. LogEndsAt p.log.gate h.now) (known middle.log)) closed has.log))
+      (subst (λ (gate : NextGate). IfKnown (λ h. LogEndsAt gate h.now) (known (log_at (active_of mid.slots) middle))) (ap (λ (p : EngineParts). p.log.gate) closed) has.log)))
 
-  pub may-end : (rules : Rules) (start : SessionState) (closed : List (List Request)) (gate next : NextGate) (new : Devices D) → IsGateAfter rules gate.place start closed next → IfKnown (λ h. LogEndsAtEither gate next h.now) (known new.log)
-      → MayEndAfter rules start closed gate (each known new)
-  may-end rules start closed gate next new after either = record { next = next; after = after; either = either }
+  pub may-end : (name : LogName) (rules : Rules) (spot : LogSpot) (start : SessionState) (closed : List (List Request)) (gate next : NextGate) (new : Devices D) → IsGateUnsaved rules spot start closed next → IfKnown (λ h. LogEndsAtEither gate next h.now) (known (log_at name new))
+      → MayEndAfter name rules spot start closed gate (each known new)
+  may-end name rules spot start closed gate next new after either = record { next = next; after = after; either = subst (λ (l : Option DiskHistory). IfKnown (λ h. LogEndsAtEither gate next h.now) l) (sym (log-each known name new)) either }
+
+  -- ---- the newest slot, which isn't called
+
+  pub newest-same : (e : EngineParts) (old new : Devices D) → new.slot_a ≡ old.slot_a → new.slot_b ≡ old.slot_b → by_slot (spare_of e.slots) (known new.slot_b) (known new.slot_a) ≡ by_slot (spare_of e.slots) (known old.slot_b) (known old.slot_a)
+  newest-same e old new a b = ap₂ (λ (x y : D). by_slot (spare_of e.slots) (known y) (known x)) a b
+
+  pub newest-then : (e mid : EngineParts) → mid ≡ committed_parts e → (old middle new : Devices D) → middle.slot_a ≡ old.slot_a → middle.slot_b ≡ old.slot_b
+      → by_slot (spare_of mid.slots) (known new.slot_b) (known new.slot_a) ≡ by_slot (spare_of mid.slots) (known middle.slot_b) (known middle.slot_a)
+      → by_slot (spare_of e.slots) (known new.slot_b) (known new.slot_a) ≡ by_slot (spare_of e.slots) (known old.slot_b) (known old.slot_a)
+  newest-then e mid closed old middle new a b is =
+      subst (λ (p : EngineParts). by_slot (spare_of p.slots) (known new.slot_b) (known new.slot_a) ≡ by_slot (spare_of p.slots) (known middle.slot_b) (known middle.slot_a)) closed is ∙ newest-same e old middle a b

@@ -4,6 +4,7 @@ use Rattle.std.specs.List.{AllByRecursion}
 use Rattle.pac_outside.specs.Devices.{each}
 use Rattle.pac_outside.specs.Disk.{DiskHistory}
 use Rattle.pac_outside.specs.declared.devices.Devices.{Devices}
+use Rattle.pac_check.specs.SlotStates.{active_of, by_slot, spare_of}
 use Rattle.pac_request.specs.declared.request.Request.{Request}
 use Rattle.pac_request.specs.declared.request.Request.TheVariants.{Save}
 use Rattle.pac_request.specs.declared.request.Reply.{Reply}
@@ -17,7 +18,7 @@ use Rattle.pac_engine.specs.declared.parts.EngineParts.{EngineParts}
 use Rattle.pac_engine.specs.Closing.{Closes, CountsFault, IsKept, MayEndAfter, StopsAt}
 use Rattle.pac_engine.specs.Committing.{gate_past}
 use Rattle.pac_engine.specs.Moves.{IsLive}
-use Rattle.pac_engine.specs.Standing.{HasDevices, KeepsMore, OnlyGrows, StandsForMore}
+use Rattle.pac_engine.specs.Standing.{HasDevices, KeepsMore, OnlyGrows, StandsForMore, spot_of}
 
 -- What a step leaves where there is no room. Where the log has none for a group, no device is called, and the log ends where it
 -- ended. Where a slot has none for the checkpoint of a save, no slot is called, and the log ends after the group that the save ends.
@@ -40,9 +41,9 @@ GivesBefore asked session given = (given ≡ []) ⊎ ((asked ≡ Save) × (given
 -- after one that failed.
 pub record IsHandled {D : Type 0} (known : D → Option DiskHistory) (faults : D → ℕ) (asked : Request) (before now : EngineParts) (old new : Devices D) (result : Result (List Reply) EngineFault) : Type 0 where
   pub closes : (start : SessionState) (group : List Request) → IsInGroup start group before.session
-      → IfOk result (λ given. Closes (rules_of before.session) before.log.gate.place start (cut_one (rules_of before.session) start group asked) given now)
+      → IfOk result (λ given. Closes (rules_of before.session) (spot_of before) start (cut_one (rules_of before.session) start group asked) given now)
   pub stops : (start : SessionState) (group : List Request) → IsInGroup start group before.session
-      → IfErr result (λ fault. StopsAt (rules_of before.session) before.log.gate.place start (cut_one (rules_of before.session) start group asked).closed fault.replies fault.cause)
+      → IfErr result (λ fault. StopsAt (rules_of before.session) (spot_of before) start (cut_one (rules_of before.session) start group asked).closed fault.replies fault.cause)
   pub kept : IfOk result (λ given. AllByRecursion (IsKept now) given)
   pub kept_before : IfErr result (λ fault. AllByRecursion (IsKept now) fault.replies)
   pub live : OnOk result (IsLive now)
@@ -54,7 +55,8 @@ pub record IsHandled {D : Type 0} (known : D → Option DiskHistory) (faults : D
   pub goes_on : IfErr result (λ fault. ¬ (fault.cause ≡ Ended))
   pub given : IfErr result (λ fault. fault.cause ≡ DiskFault → GivesBefore asked before.session fault.replies)
   pub slots : (asked ≡ Save → ⊥) → (new.slot_a ≡ old.slot_a) × (new.slot_b ≡ old.slot_b)
+  pub newest : by_slot (spare_of before.slots) (known new.slot_b) (known new.slot_a) ≡ by_slot (spare_of before.slots) (known old.slot_b) (known old.slot_a)
   pub room : IfErr result (λ fault. StopsForRoom known asked fault.cause before now old new)
   pub torn : IfErr result (λ fault. fault.cause ≡ DiskFault → (start : SessionState) (group : List Request) → IsInGroup start group before.session
-      → MayEndAfter (rules_of before.session) start (cut_one (rules_of before.session) start group asked).closed before.log.gate (each known new))
+      → MayEndAfter (active_of before.slots) (rules_of before.session) (spot_of before) start (cut_one (rules_of before.session) start group asked).closed before.log.gate (each known new))
   pub counted : MatchResult result (λ _. each faults new ≡ each faults old) (λ fault. CountsFault fault.cause (each faults old) (each faults new))

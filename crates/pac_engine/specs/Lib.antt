@@ -1,4 +1,3 @@
-pub mod Causes
 pub mod Committing
 pub mod Standing
 pub mod Closing

@@ -1,5 +1,5 @@
 -- What an engine keeps between requests, and what single moves make of it.
-use Rattle.std.specs.Prelude.{◌≡◌, ◌<◌, ◌≤◌, ◌+◌, ℕ, Bool, false, length, Some}
+use Rattle.std.specs.Prelude.{◌≡◌, ◌<◌, ◌≤◌, ◌+◌, ℕ, Bool, false, if◌then◌else◌, List, length, Some}
 use Rattle.std.specs.List.{AllByRecursion}
 use Rattle.pac_ops.specs.declared.transaction.Txn.{Txn}
 use Rattle.pac_types.specs.Fits.{TxnFits}
@@ -7,11 +7,14 @@ use Rattle.pac_request.specs.declared.request.Request.{Request}
 use Rattle.pac_request.specs.declared.request.Reply.{Reply}
 use Rattle.pac_request.specs.declared.request.Reply.TheVariants as reply
 use Rattle.pac_log.specs.declared.log.Stage.TheVariants.{Waiting}
+use Rattle.pac_check.specs.declared.head.Head.{Head}
 use Rattle.pac_check.specs.declared.limits.TheConstants.{MAX_SAVED_ROWS}
-use Rattle.pac_check.specs.Checkpoints.{first_head}
-use Rattle.pac_check.specs.SlotStates.{saved_slots}
+use Rattle.pac_check.specs.Checkpoints.{checkpoint_bytes}
+use Rattle.pac_check.specs.Saved.{checkpoint_of}
+use Rattle.pac_check.specs.SlotStates.{closed_slots, coming_head, newest_of, published_slots}
+use Rattle.pac_log.specs.Gates.{next_segment}
 use Rattle.pac_session.specs.Session.{txn_of}
-use Rattle.pac_session.specs.Groups.{is_closing, lacks_room}
+use Rattle.pac_session.specs.Groups.{is_closing, is_save, lacks_room, saves_anew}
 use Rattle.pac_session.specs.Open.{Open, with_asked, with_closed}
 use Rattle.pac_engine.specs.declared.parts.EngineParts.{EngineParts}
 use Rattle.pac_engine.specs.Committing.{gate_past}
@@ -57,21 +60,33 @@ with_request asked engine = record engine { session = with_asked asked engine.se
 abbrev pub committed_parts : EngineParts → EngineParts
 committed_parts engine = record engine { session = with_closed engine.session; log = record { gate = gate_past engine.session.txns engine.log.gate; stage = Waiting } }
 
--- a checkpoint saved
-abbrev pub saved_parts : EngineParts → EngineParts
-saved_parts engine = record engine { slots = saved_slots (first_head engine.log.gate.txns engine.log.gate.place) engine.slots }
+-- the head of the checkpoint that a save writes
+abbrev pub saved_head : EngineParts → Head
+saved_head engine = coming_head engine.slots engine.log.gate.txns (next_segment engine.log.gate).place
 
--- what is durable and saved is as it was
+-- and the checkpoint's bytes
+abbrev pub saved_bytes : EngineParts → List ℕ
+saved_bytes engine = checkpoint_bytes (checkpoint_of (length engine.session.catalogue.tables) (saved_head engine) engine.session.tables)
+
+-- a checkpoint is written, and the next segment begun
+abbrev pub written_parts : EngineParts → EngineParts
+written_parts engine = record engine { slots = published_slots (saved_head engine) (closed_slots engine.slots); log = record { gate = next_segment engine.log.gate; stage = Waiting } }
+
+-- a save writes a checkpoint, or leaves all as it is
+abbrev pub saved_parts : EngineParts → EngineParts
+saved_parts engine = if saves_anew (saved_of engine) (durable_of engine) then written_parts engine else engine
+
+-- what is durable and saved is as it was, and the same segment is active
 pub record IsUnmoved (before now : EngineParts) : Type 0 where
   pub gate : now.log.gate ≡ before.log.gate
-  pub slot_a : now.slots.a ≡ before.slots.a
-  pub slot_b : now.slots.b ≡ before.slots.b
+  pub newest : newest_of now.slots ≡ newest_of before.slots
 
--- A request was executed after those of the open group, which had room for its transaction; what is known of the request,
--- and of whether it closes its group.
+-- A request was executed after those of the open group, which had room for its transaction; what is known of the request, which is
+-- no save, and of whether it closes its group.
 pub record IsAsked (before : EngineParts) (asked : Request) (closing : Bool) (now : EngineParts) : Type 0 where
   pub live : IsLive before
   pub fits : (txn : Txn) → txn_of asked ≡ Some txn → TxnFits before.session.catalogue txn
   pub room : lacks_room before.session.txns (txn_of asked) ≡ false
   pub closes : closing ≡ is_closing asked
+  pub unsaved : is_save asked ≡ false
   pub becomes : now ≡ with_request asked before

@@ -7,15 +7,15 @@ ghost use Rattle.pac_types.specs.Execution.{first_over};
 ghost use Rattle.pac_types.specs.Fits.{FitsCatalogue};
 ghost use Rattle.pac_log.specs.declared.log.Stage.{Stage};
 ghost use Rattle.pac_check.specs.declared.limits.TheConstants.{MAX_SAVED_ROWS, MAX_SLOT_LEN};
-ghost use Rattle.pac_check.specs.SlotStates.{newest_of, saved_txns};
+ghost use Rattle.pac_check.specs.SlotStates.{active_of, by_slot, newest_of, saved_txns, spare_of};
 ghost use Rattle.pac_request.specs.declared.request.Request.{Request as ARequest};
 ghost use Rattle.pac_request.specs.RequestFits.{RequestFits};
 ghost use Rattle.pac_session.specs.Session.{SessionState, commits};
-ghost use Rattle.pac_session.specs.Groups.{cut_one, place_after_group};
+ghost use Rattle.pac_session.specs.Groups.{cut_one, saves_anew};
 ghost use Rattle.pac_session.specs.Open.{IsInGroup, rules_of, state_now};
 ghost use Rattle.pac_engine.specs.Closing.{Closes, CountsFault, IsKept, MayEndAfter, StopsAt, is_stop, slot_len};
 ghost use Rattle.pac_engine.specs.Handled.{GivesBefore, StopsForRoom};
-ghost use Rattle.pac_engine.specs.Standing.{HasDevices, OnlyGrows, KeepsMore, StandsForMore, durable_of};
+ghost use Rattle.pac_engine.specs.Standing.{HasDevices, OnlyGrows, KeepsMore, StandsForMore, durable_of, saved_of, spot_of};
 
 use crate::{EngineCause, EngineFault, EngineParts};
 use pac_check::Slots;
@@ -122,15 +122,17 @@ impl Engine {
 
     /// Does what one request asks. A transaction is executed, and where the open group has no room for its entry that is
     /// closed first; the reply is held. The group is closed where it is full then, or the request closes it: its transactions
-    /// are committed, and the replies that it held are given out. A save then puts a checkpoint into a slot, and a stop ends
-    /// the engine. At each moment a crash leaves devices that stand for the history with what was durable before.
+    /// are committed, and the replies that it held are given out. A save then puts a checkpoint into a slot and goes on in a new
+    /// segment of the log, on the other log device; where the newest slot has as many transactions, or more than 2^62 are there, it
+    /// calls no device. A stop ends the engine. At each moment a crash leaves devices that stand for the history with what was
+    /// durable before.
     ///
     /// # Errors
     ///
     /// A fault has the replies that became durable in this step before it, and ends the engine.
     ///
     /// - [`EngineCause::Ended`] exactly where an earlier step answered a fault, or handled a stop. No device is called.
-    /// - [`EngineCause::LogFull`] only where the log would have more than 268,435,456 bytes with a group that is closed.
+    /// - [`EngineCause::LogFull`] only where the log's segment would have more than 268,435,456 bytes with a group that is closed.
     /// - [`EngineCause::TooLarge`] only where a slot would have more than 268,435,456 bytes with the checkpoint.
     /// - [`EngineCause::DiskFault`] where a call of a device failed, so only where the count of faults of one rose; no call of
     ///   any comes after it.
@@ -146,10 +148,10 @@ impl Engine {
         // The replies are those of the group that the request closes, if it closes one; of a step that fails, of a group that was
         // closed before.
         ensures closes { (start : SessionState) (group : List ARequest) → IsInGroup start group self.old.session
-            → IfOk result (λ given. Closes (rules_of self.old.session) self.old.log.gate.place start (cut_one (rules_of self.old.session) start group request) given self.new) }
+            → IfOk result (λ given. Closes (rules_of self.old.session) (spot_of self.old) start (cut_one (rules_of self.old.session) start group request) given self.new) }
         ensures stops { self.old.ended ≡ false → (start : SessionState) (group : List ARequest) → IsInGroup start group self.old.session
-            → IfErr result (λ fault. StopsAt (rules_of self.old.session) self.old.log.gate.place start (cut_one (rules_of self.old.session) start group request).closed fault.replies fault.cause) }
-        ensures small { request ≡ ARequest.Save → OnOk result (slot_len (rules_of self.old.session) (state_now self.old.session) (place_after_group self.old.log.gate.place self.old.session.txns) ≤ MAX_SLOT_LEN) }
+            → IfErr result (λ fault. StopsAt (rules_of self.old.session) (spot_of self.old) start (cut_one (rules_of self.old.session) start group request).closed fault.replies fault.cause) }
+        ensures small { request ≡ ARequest.Save → saves_anew (saved_of self.old) (state_now self.old.session).number ≡ true → OnOk result (slot_len (rules_of self.old.session) (state_now self.old.session) ≤ MAX_SLOT_LEN) }
         ensures same { OnOk result (rules_of self.new.session ≡ rules_of self.old.session) }
 
         // What they report is durable, and stays so; what is durable are the transactions of the groups that were closed.
@@ -161,15 +163,17 @@ impl Engine {
         // Where a device failed only a save returns replies, those of the group before it.
         ensures given { IfErr result (λ fault. fault.cause ≡ EngineCause.DiskFault → GivesBefore request self.old.session fault.replies) }
 
-        // Only a save calls a slot.
+        // Only a save calls a slot, and never the newest.
         ensures slots { ¬ (request ≡ ARequest.Save) → (devices.new.slot_a ≡ devices.old.slot_a) × (devices.new.slot_b ≡ devices.old.slot_b) }
+        ensures newest { by_slot (spare_of self.old.slots) (D.known devices.new.slot_b) (D.known devices.new.slot_a) ≡ by_slot (spare_of self.old.slots) (D.known devices.old.slot_b) (D.known devices.old.slot_a) }
 
         // What has no room is not begun: no device is called for it, and what was durable before is all that is.
         ensures room { IfErr result (λ fault. StopsForRoom D.known request fault.cause self.old self.new devices.old devices.new) }
 
-        // Where a device failed, each image of the log ends where the log ended, or after the group that the request closes.
+        // Where a device failed, each image of the segment that was active ends where it ended, or after the group that the request
+        // closes.
         ensures torn { IfErr result (λ fault. fault.cause ≡ EngineCause.DiskFault → (start : SessionState) (group : List ARequest) → IsInGroup start group self.old.session
-            → MayEndAfter (rules_of self.old.session) start (cut_one (rules_of self.old.session) start group request).closed self.old.log.gate (each D.known devices.new)) }
+            → MayEndAfter (active_of self.old.slots) (rules_of self.old.session) (spot_of self.old) start (cut_one (rules_of self.old.session) start group request).closed self.old.log.gate (each D.known devices.new)) }
 
         // The devices stand for the history at each moment, and the engine stands for it with the transactions of the request.
         ensures ready { OnOk result (HasDevices D.known self.new devices.new) }

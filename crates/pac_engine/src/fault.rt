@@ -2,7 +2,6 @@
 ghost use Rattle.std.specs.Prelude.{◌≡◌};
 
 use pac_base::NoMemory;
-use pac_check::SaveError;
 use pac_outside::Failed;
 use pac_request::Replies;
 use std::fmt;
@@ -60,19 +59,5 @@ impl From<Failed> for EngineCause {
 
     fn from(_: Failed) -> Self {
         EngineCause::DiskFault
-    }
-}
-
-impl From<SaveError> for EngineCause {
-    ghost use Rattle.pac_engine.specs.Causes.{cause_of_save};
-
-    ghost from_gives = { λ error cause. cause ≡ cause_of_save error };
-
-    fn from(error: SaveError) -> Self {
-        match error {
-            SaveError::TooLarge { bytes } => EngineCause::TooLarge { bytes },
-            SaveError::DiskFault => EngineCause::DiskFault,
-            SaveError::NoMemory => EngineCause::NoMemory,
-        }
     }
 }

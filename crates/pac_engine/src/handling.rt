@@ -1,19 +1,20 @@
 // Does what one request asks.
 ghost use Rattle.std.specs.Prelude.{◌≡◌, ◌≤◌, ◌<◌, ◌≢◌, ◌++◌, ◌∷◌, ◌||◌, [], false, true, length, nat_le, ℕ, IfErr, IfOk, MatchResult, OnErr, OnOk, Some as ASome, None as ANone};
 ghost use Rattle.std.specs.List.{AllByRecursion};
-ghost use Rattle.pac_outside.specs.Devices.{each};
+ghost use Rattle.pac_outside.specs.Devices.{each, log_at};
 ghost use Rattle.pac_types.specs.Fits.{TxnFits};
 ghost use Rattle.pac_check.specs.declared.limits.TheConstants.{MAX_SLOT_LEN};
+ghost use Rattle.pac_check.specs.SlotStates.{active_of, by_slot, spare_of};
 ghost use Rattle.pac_request.specs.declared.request.Request.{Request as ARequest};
 ghost use Rattle.pac_request.specs.declared.request.Reply.{Reply as AReply};
 ghost use Rattle.pac_request.specs.RequestFits.{RequestFits};
 ghost use Rattle.pac_session.specs.Session.{txn_of};
-ghost use Rattle.pac_session.specs.Groups.{is_closing, lacks_room, place_after_group};
+ghost use Rattle.pac_session.specs.Groups.{is_closing, lacks_room, saves_anew};
 ghost use Rattle.pac_session.specs.Open.{rules_of, state_now};
 ghost use Rattle.pac_engine.specs.Closing.{CountsFault, IsKept, slot_len};
 ghost use Rattle.pac_engine.specs.Handled.{IsHandled};
 ghost use Rattle.pac_engine.specs.Moves.{IsAsked, IsHeldBy, IsLive, IsWorking, saved_parts};
-ghost use Rattle.pac_engine.specs.Standing.{HasDevices, OnlyGrows, KeepsMore, StandsForMore};
+ghost use Rattle.pac_engine.specs.Standing.{HasDevices, OnlyGrows, KeepsMore, StandsForMore, durable_of, saved_of};
 ghost use Rattle.pac_engine.specs.declared.parts.EngineParts.{EngineParts as AParts};
 
 use crate::{EngineCause, EngineFault, EngineParts};
@@ -174,10 +175,12 @@ impl EngineParts {
         ensures ready { OnOk result (HasDevices D.known self.new devices.new) }
         ensures keeps { KeepsMore D.known [] self.old self.new devices.old devices.new }
         ensures stands { OnOk result (StandsForMore D.known [] self.old self.new devices.old devices.new) }
-        ensures large { IfErr result (λ fault. (bytes : ℕ) → fault.cause ≡ EngineCause.TooLarge bytes → (bytes ≡ slot_len (rules_of self.old.session) (state_now self.old.session) self.old.log.gate.place) × (MAX_SLOT_LEN < bytes)) }
-        ensures small { OnOk result (slot_len (rules_of self.old.session) (state_now self.old.session) self.old.log.gate.place ≤ MAX_SLOT_LEN) }
+        ensures large { IfErr result (λ fault. (bytes : ℕ) → fault.cause ≡ EngineCause.TooLarge bytes → (saves_anew (saved_of self.old) (durable_of self.old) ≡ true) × (bytes ≡ slot_len (rules_of self.old.session) (state_now self.old.session)) × (MAX_SLOT_LEN < bytes)) }
+        ensures writes { IfErr result (λ fault. fault.cause ≡ EngineCause.DiskFault → saves_anew (saved_of self.old) (durable_of self.old) ≡ true) }
+        ensures small { saves_anew (saved_of self.old) (durable_of self.old) ≡ true → OnOk result (slot_len (rules_of self.old.session) (state_now self.old.session) ≤ MAX_SLOT_LEN) }
         ensures uncalled { IfErr result (λ fault. (bytes : ℕ) → fault.cause ≡ EngineCause.TooLarge bytes → (self.new ≡ self.old) × (devices.new ≡ devices.old)) }
-        ensures log { devices.new.log ≡ devices.old.log }
+        ensures active { log_at (active_of self.old.slots) devices.new ≡ log_at (active_of self.old.slots) devices.old }
+        ensures newest { by_slot (spare_of self.old.slots) (D.known devices.new.slot_b) (D.known devices.new.slot_a) ≡ by_slot (spare_of self.old.slots) (D.known devices.old.slot_b) (D.known devices.old.slot_a) }
         ensures full { IfErr result (λ fault. (need : ℕ) → ¬ (fault.cause ≡ EngineCause.LogFull need)) }
         ensures goes_on { IfErr result (λ fault. ¬ (fault.cause ≡ EngineCause.Ended)) }
         ensures faults { MatchResult result (λ _. each D.faults devices.new ≡ each D.faults devices.old) (λ fault. CountsFault fault.cause (each D.faults devices.old) (each D.faults devices.new)) }
@@ -200,7 +203,7 @@ impl EngineParts {
         requires live { IsLive self.old }
         requires ready { HasDevices D.known self.old devices.old }
         ensures handled { IsHandled D.known D.faults ARequest.Save self.old self.new devices.old devices.new result }
-        ensures small { OnOk result (slot_len (rules_of self.old.session) (state_now self.old.session) (place_after_group self.old.log.gate.place self.old.session.txns) ≤ MAX_SLOT_LEN) }
+        ensures small { saves_anew (saved_of self.old) (state_now self.old.session).number ≡ true → OnOk result (slot_len (rules_of self.old.session) (state_now self.old.session) ≤ MAX_SLOT_LEN) }
     {
         match self.close(devices) {
             Ok(replies) => self.save_and_report(alloc, replies, devices),
@@ -219,7 +222,7 @@ impl EngineParts {
         requires ready { HasDevices D.known self.old devices.old }
         requires fits { RequestFits self.old.session.catalogue request }
         ensures handled { IsHandled D.known D.faults request self.old self.new devices.old devices.new result }
-        ensures small { request ≡ ARequest.Save → OnOk result (slot_len (rules_of self.old.session) (state_now self.old.session) (place_after_group self.old.log.gate.place self.old.session.txns) ≤ MAX_SLOT_LEN) }
+        ensures small { request ≡ ARequest.Save → saves_anew (saved_of self.old) (state_now self.old.session).number ≡ true → OnOk result (slot_len (rules_of self.old.session) (state_now self.old.session) ≤ MAX_SLOT_LEN) }
     {
         match transaction_of(request) {
             Ok(txn) => self.execute(alloc, Measured::of(txn), devices),

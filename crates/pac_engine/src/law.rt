@@ -1,6 +1,7 @@
 // What steps come to, one after another. Each law is a function without code.
 ghost use Rattle.std.specs.Prelude.{◌≡◌, ◌++◌, [], ℕ, List, Option, take};
 ghost use Rattle.pac_ops.specs.declared.transaction.Txn.{Txn as ATxn};
+ghost use Rattle.pac_outside.specs.Devices.{WhileAllKnown};
 ghost use Rattle.pac_outside.specs.Disk.{DiskHistory};
 ghost use Rattle.pac_outside.specs.Parts.{reads_of};
 ghost use Rattle.pac_outside.specs.declared.devices.Devices.{Devices as ADevices};
@@ -8,23 +9,23 @@ ghost use Rattle.pac_request.specs.declared.request.Request.{Request as ARequest
 ghost use Rattle.pac_request.specs.declared.request.Reply.{Reply as AReply};
 ghost use Rattle.pac_store.specs.Stands.{StandsFor};
 ghost use Rattle.pac_session.specs.Session.{Rules, SessionState, ends};
-ghost use Rattle.pac_session.specs.Groups.{GroupCut, all_requests, cut_on, cut_one};
+ghost use Rattle.pac_session.specs.Groups.{GroupCut, LogSpot, all_requests, cut_on, cut_one};
 ghost use Rattle.pac_session.specs.Open.{rules_of, state_now};
 ghost use Rattle.pac_engine.specs.Closing.{Closes, StopsAt};
-ghost use Rattle.pac_engine.specs.Standing.{IsOpenedOn, KeepsHistory, OnlyGrows, StandsOn, WhileAllKnown};
+ghost use Rattle.pac_engine.specs.Standing.{IsOpenedOn, KeepsHistory, OnlyGrows, StandsOn, spot_of};
 ghost use Rattle.pac_engine.specs.declared.fault.EngineCause.{EngineCause as ACause};
 ghost use Rattle.pac_engine.specs.declared.parts.EngineParts.{EngineParts as AParts};
 
 /// An engine that begins has closed no group. Where it has closed the groups of some requests, and a step closes those of one
 /// request more, it has closed the groups of all of them; and where that step stops, it stops at one of all the groups.
 pub fn steps_are_the_session()
-    ensures begins { (engine : AParts) → engine.session.txns ≡ [] → engine.session.held ≡ [] → Closes (rules_of engine.session) engine.log.gate.place (state_now engine.session) (record { closed = []; rest = [] }) [] engine }
-    ensures closes { (rules : Rules) (place : ℕ) (start : SessionState) (whole : GroupCut) (asked : ARequest) (given more : List AReply) (old new : AParts) → Closes rules place start whole given old
-        → Closes rules old.log.gate.place (ends rules start (all_requests whole.closed)) (cut_one rules (ends rules start (all_requests whole.closed)) whole.rest asked) more new
-        → Closes rules place start (cut_on rules start whole asked) (given ++ more) new }
-    ensures stops { (rules : Rules) (place : ℕ) (start : SessionState) (whole : GroupCut) (asked : ARequest) (given more : List AReply) (old : AParts) (cause : ACause) → Closes rules place start whole given old
-        → StopsAt rules old.log.gate.place (ends rules start (all_requests whole.closed)) (cut_one rules (ends rules start (all_requests whole.closed)) whole.rest asked).closed more cause
-        → StopsAt rules place start (cut_on rules start whole asked).closed (given ++ more) cause }
+    ensures begins { (engine : AParts) → engine.session.txns ≡ [] → engine.session.held ≡ [] → Closes (rules_of engine.session) (spot_of engine) (state_now engine.session) (record { closed = []; rest = [] }) [] engine }
+    ensures closes { (rules : Rules) (spot : LogSpot) (start : SessionState) (whole : GroupCut) (asked : ARequest) (given more : List AReply) (old new : AParts) → Closes rules spot start whole given old
+        → Closes rules (spot_of old) (ends rules start (all_requests whole.closed)) (cut_one rules (ends rules start (all_requests whole.closed)) whole.rest asked) more new
+        → Closes rules spot start (cut_on rules start whole asked) (given ++ more) new }
+    ensures stops { (rules : Rules) (spot : LogSpot) (start : SessionState) (whole : GroupCut) (asked : ARequest) (given more : List AReply) (old : AParts) (cause : ACause) → Closes rules spot start whole given old
+        → StopsAt rules (spot_of old) (ends rules start (all_requests whole.closed)) (cut_one rules (ends rules start (all_requests whole.closed)) whole.rest asked).closed more cause
+        → StopsAt rules spot start (cut_on rules start whole asked).closed (given ++ more) cause }
 {}
 
 /// An engine that stands for a history, and keeps it with some transactions after it, in one step, and then with more of them
@@ -41,9 +42,9 @@ pub fn steps_keep_the_history()
         → WhileAllKnown (StandsOn text history first) (λ was is. StandsOn text (history ++ (more ++ last)) end is) old new }
 {}
 
-/// An engine that is opened over devices that stand for a history stands for as many transactions of it as the log has.
+/// An engine that is opened over devices that stand for a history stands for its first transactions, up to the last that the log has.
 pub fn an_opened_engine_stands()
     ensures { (text : List ℕ) (history : List ATxn) (least : ℕ) (engine : AParts) (devices : ADevices DiskHistory) → StandsFor text engine.session.catalogue history least (reads_of devices)
-        → IsOpenedOn history engine devices.log devices.slot_a devices.slot_b
+        → IsOpenedOn history engine devices
         → StandsOn text (take engine.log.gate.txns history) engine devices }
 {}

@@ -12,7 +12,7 @@ use Rattle.pac_ops.specs.declared.transaction.Txn.{Txn}
 use Rattle.pac_types.specs.Accepted.{IsAccepted}
 use Rattle.pac_types.specs.Execution.{first_over}
 use Rattle.pac_types.specs.Typing.{CatalogueState}
-use Rattle.pac_recover.specs.Gates.{txns_in}
+use Rattle.pac_restore.specs.Batches.{txns_in}
 use Rattle.pac_report.specs.Dump.{tables_text}
 use Rattle.pac_request.specs.declared.request.Request.{Request}
 use Rattle.pac_run.specs.declared.limits.TheConstants.{MAX_INPUT}

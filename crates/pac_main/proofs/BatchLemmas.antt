@@ -3,7 +3,7 @@ use Rattle.std.proofs.Common.{◌≡◌, ℕ, ◌+◌, ◌-◌, ◌^◌, ◌<◌
 use Rattle.std.proofs.lemmas.List.{length-append}
 use Rattle.pac_ops.specs.declared.batch.Batch.{Batch}
 use Rattle.pac_ops.specs.declared.transaction.Txn.{Txn}
-use Rattle.pac_recover.specs.Gates.{RunOn, txns_in}
+use Rattle.pac_restore.specs.Batches.{RunOn, txns_in}
 use Rattle.pac_script.specs.Batches.{as_batches}
 use Rattle.pac_script.specs.BatchFits.{BatchesHaveNumbers}
 

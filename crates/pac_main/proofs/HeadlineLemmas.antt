@@ -15,8 +15,10 @@ use Rattle.pac_types.specs.Typing.{CatalogueState}
 use Rattle.pac_log.specs.declared.header.HeaderForm.TheVariants.{First}
 use Rattle.pac_log.specs.Logs.{header_bytes, header_with}
 use Rattle.pac_types.specs.Accepted.{IsAccepted}
-use Rattle.pac_store.specs.Images.{Images}
-use Rattle.pac_store.proofs.ImageLemmas.{devices-same, images-of}
+use Rattle.pac_store.specs.Images.{Images, IfImagesKnown}
+use Rattle.pac_check.specs.declared.state.SlotState.TheVariants.{Closed}
+use Rattle.pac_outside.proofs.KnownDevices.{devices-same}
+use Rattle.pac_store.proofs.ImageLemmas.{images-of}
 use Rattle.pac_store.specs.Stands.{StandsFor}
 use Rattle.pac_store.specs.Made.{IsNewStore, MakesStore}
 use Rattle.pac_session.specs.Session.{committed}
@@ -58,39 +60,45 @@ same_image image other state is at = one_image image other (subst (λ (s : DiskS
 
 same_images : (images : Images) (devices : Devices DiskHistory) → HoldImages images devices → (others : Images) → AreImages devices others → others ≡ images
 same_images images devices hold others are =
-    devices-same others.log others.slot_a others.slot_b images.log images.slot_a images.slot_b
-    (same_image images.log others.log devices.log.now hold.log are.log) (same_image images.slot_a others.slot_a devices.slot_a.now hold.slot_a are.slot_a) (same_image images.slot_b others.slot_b devices.slot_b.now hold.slot_b are.slot_b)
+    devices-same others.log others.log_b others.slot_a others.slot_b images.log images.log_b images.slot_a images.slot_b
+    (same_image images.log others.log devices.log.now hold.log are.log) (same_image images.log_b others.log_b devices.log_b.now hold.log_b are.log_b) (same_image images.slot_a others.slot_a devices.slot_a.now hold.slot_a are.slot_a) (same_image images.slot_b others.slot_b devices.slot_b.now hold.slot_b are.slot_b)
 
 seen_images : (images : Images) (devices : Devices DiskHistory) → HoldImages images devices → reads_of devices ≡ images
 seen_images images devices hold =
-    devices-same devices.log.now.seen devices.slot_a.now.seen devices.slot_b.now.seen images.log images.slot_a images.slot_b
-    (ap (λ (s : DiskState). s.seen) hold.log) (ap (λ (s : DiskState). s.seen) hold.slot_a) (ap (λ (s : DiskState). s.seen) hold.slot_b)
+    devices-same devices.log.now.seen devices.log_b.now.seen devices.slot_a.now.seen devices.slot_b.now.seen images.log images.log_b images.slot_a images.slot_b
+    (ap (λ (s : DiskState). s.seen) hold.log) (ap (λ (s : DiskState). s.seen) hold.log_b) (ap (λ (s : DiskState). s.seen) hold.slot_a) (ap (λ (s : DiskState). s.seen) hold.slot_b)
 
 -- ---- a new store
 
 not_open : ◌≢◌ {A = ℕ} 0 1
 not_open e = absurd (omega (arith, e))
 
--- its images stand for no transactions
-new_images : (text : List ℕ) (catalogue : CatalogueState) → IsAccepted text catalogue → (log a b : List ℕ) → log ≡ header_bytes (header_with First text) ++ 0 ∷ [] → a ≡ 0 ∷ [] → b ≡ 0 ∷ []
-    → StandsFor text catalogue [] 0 (record { log = log; slot_a = a; slot_b = b })
-new_images text catalogue accepted log a b is one other = record {
+-- its images stand for no transactions, whatever the second log device has
+new_images : (text : List ℕ) (catalogue : CatalogueState) → IsAccepted text catalogue → (log log_b a b : List ℕ) → log ≡ header_bytes (header_with First text) ++ 0 ∷ [] → a ≡ 0 ∷ [] → b ≡ 0 ∷ []
+    → StandsFor text catalogue [] 0 (record { log = log; log_b = log_b; slot_a = a; slot_b = b })
+new_images text catalogue accepted log log_b a b is one other = record {
   executes = record { fit = λ k d below. absurd (omega (arith, below)); held = empty; ends = refl };
+  form = First;
   batches = [];
+  a = Closed;
+  b = Closed;
+  slot_a = record { gate = 0; rest = []; split = one; shut = not_open };
+  slot_b = record { gate = 0; rest = []; split = other; shut = not_open };
   log = record {
     log = record { accepted = accepted; base = omega arith; each = λ k d below. absurd (omega (arith, below)) };
     shut = record { gate = 0; rest = []; split = is ∙ ap (λ (prefix : List ℕ). prefix ++ 0 ∷ []) (sym (append-nil (header_bytes (header_with First text)))); shut = not_open };
   };
+  placed = refl;
+  earlier = [];
   later = [];
-  prefix = refl;
+  before = refl;
+  split = refl;
   enough = omega arith;
-  slot_a = inl (record { gate = 0; rest = []; split = one; shut = not_open });
-  slot_b = inl (record { gate = 0; rest = []; split = other; shut = not_open });
 }
 
 new_devices : (text : List ℕ) (catalogue : CatalogueState) → IsAccepted text catalogue → (exit : Devices DiskHistory) → IsNewStore text exit → (images : Images) → AreImages exit images → StandsFor text catalogue [] 0 images
 new_devices text catalogue accepted exit new images are =
-    new_images text catalogue accepted images.log images.slot_a images.slot_b
+    new_images text catalogue accepted images.log images.log_b images.slot_a images.slot_b
     (same_image (header_bytes (header_with First text) ++ 0 ∷ []) images.log exit.log.now new.0 are.log) (same_image (0 ∷ []) images.slot_a exit.slot_a.now new.1 are.slot_a) (same_image (0 ∷ []) images.slot_b exit.slot_b.now new.2 are.slot_b)
 
 pub new-store : (text : List ℕ) (input errors : Observed) (devices : ObservedDevices) (entry exit : Devices DiskHistory) → InitEnds 0 input errors devices
@@ -120,6 +128,7 @@ kept_image old new image same is = subst (λ (s : DiskState). IsImage s image) s
 kept_images : (left found : Devices DiskHistory) → AreAsLeft left found → (others : Images) → AreImages found others → AreImages left others
 kept_images left found same others leave = record {
   log = kept_image left.log found.log others.log same.log leave.log;
+  log_b = kept_image left.log_b found.log_b others.log_b same.log_b leave.log_b;
   slot_a = kept_image left.slot_a found.slot_a others.slot_a same.slot_a leave.slot_a;
   slot_b = kept_image left.slot_b found.slot_b others.slot_b same.slot_b leave.slot_b;
 }
@@ -130,6 +139,7 @@ kept_read old new same is = subst (λ (s : DiskState). IsImage old.now s.seen) (
 kept_reads : (left found : Devices DiskHistory) → AreImages left (reads_of left) → AreAsLeft left found → AreImages left (reads_of found)
 kept_reads left found own same = record {
   log = kept_read left.log found.log same.log own.log;
+  log_b = kept_read left.log_b found.log_b same.log_b own.log_b;
   slot_a = kept_read left.slot_a found.slot_a same.slot_a own.slot_a;
   slot_b = kept_read left.slot_b found.slot_b same.slot_b own.slot_b;
 }

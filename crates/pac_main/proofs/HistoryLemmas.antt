@@ -3,7 +3,7 @@ use Rattle.std.proofs.Common.{◌≡◌, ◌∙◌, inl, inr, ℕ, List, length,
 use Rattle.pac_value.specs.State.{Tables}
 use Rattle.pac_ops.specs.declared.note.Note.{Note}
 use Rattle.pac_ops.specs.declared.transaction.Txn.{Txn}
-use Rattle.pac_outside.specs.Devices.{all_known}
+use Rattle.pac_outside.specs.Devices.{WhileAllKnown, WhileKnown, all_known}
 use Rattle.pac_outside.specs.Disk.{DiskHistory}
 use Rattle.pac_outside.specs.Parts.{reads_of}
 use Rattle.pac_outside.specs.declared.devices.Devices.{Devices}
@@ -13,8 +13,8 @@ use Rattle.pac_store.specs.Images.{Images}
 use Rattle.pac_store.specs.Stands.{EndsWith, StandsFor}
 use Rattle.pac_store.proofs.StandsLemmas.{goes-on}
 use Rattle.pac_request.specs.declared.request.Request.{Request}
+use Rattle.pac_session.specs.Groups.{LogSpot}
 use Rattle.pac_session.specs.Session.{Rules, SessionState}
-use Rattle.pac_engine.specs.Standing.{WhileAllKnown, WhileKnown}
 use Rattle.pac_run.specs.declared.stop.RunStop.{RunStop}
 use Rattle.pac_run.specs.Opening.{AllStand}
 use Rattle.pac_run.specs.Run.{AtExit, IsBegun, IsExit, IsRun, history_after}
@@ -30,9 +30,9 @@ while-known P Q R S less more None y h = tt
 while-known P Q R S less more (Some x) None h = λ q. h (less x q)
 while-known P Q R S less more (Some x) (Some y) h = λ q. more x y q (h (less x q))
 
-module _ (text : List ℕ) (catalogue : CatalogueState) (history : List Txn) (least place : ℕ) (rules : Rules) (start : SessionState) (requests : List Request) (out : List ℕ) where
+module _ (text : List ℕ) (catalogue : CatalogueState) (history : List Txn) (least : ℕ) (spot : LogSpot) (rules : Rules) (start : SessionState) (requests : List Request) (out : List ℕ) where
   -- the session began with what is stored
-  commits : (images : Images) → StandsFor text catalogue history least images → IsBegun rules place start images → (exit : Devices DiskHistory) → IsExit text catalogue (history_after history rules start requests) start.number out exit
+  commits : (images : Images) → StandsFor text catalogue history least images → IsBegun rules spot start images → (exit : Devices DiskHistory) → IsExit text catalogue (history_after history rules start requests) start.number out exit
       → Commits text catalogue history least rules start requests out exit
   commits images stands begun exit e =
       let from = begun.recovered in
@@ -51,7 +51,7 @@ module _ (text : List ℕ) (catalogue : CatalogueState) (history : List Txn) (le
         stands = λ images are. (e.stands images are).stands;
       }
 
-  left : (entry exit : Devices DiskHistory) → FoundStanding text catalogue history least entry → AtExit text catalogue history rules place start requests out entry exit → LeavesHistory text catalogue history least rules start requests out entry exit
+  left : (entry exit : Devices DiskHistory) → FoundStanding text catalogue history least entry → AtExit text catalogue history rules spot start requests out entry exit → LeavesHistory text catalogue history least rules start requests out entry exit
   left entry exit standing (inl none) = inl none
   left entry exit standing (inr e) = inr (commits (reads_of entry) standing.read e.0 exit e.1)
 
@@ -59,5 +59,5 @@ pub leaves-history : (batch limit : ℕ) (input input' held held' : Option (List
     → (ran : IsRun batch limit input input' held held' known known' faulted result) → (text : List ℕ) (catalogue : CatalogueState) (history : List Txn) (least : ℕ)
     → WhileAllKnown (FoundStanding text catalogue history least) (LeavesHistory text catalogue history least ran.rules ran.start ran.requests ran.out) known known'
 leaves-history batch limit input input' held held' known known' faulted result ran text catalogue history least =
-    while-known (AllStand text catalogue history least) (FoundStanding text catalogue history least) (AtExit text catalogue history ran.rules ran.place ran.start ran.requests ran.out) (LeavesHistory text catalogue history least ran.rules ran.start ran.requests ran.out)
-    (λ u standing. standing.images) (λ u v standing at. left text catalogue history least ran.place ran.rules ran.start ran.requests ran.out u v standing at) (all_known known) (all_known known') (ran.exit text catalogue history least)
+    while-known (AllStand text catalogue history least) (FoundStanding text catalogue history least) (AtExit text catalogue history ran.rules ran.spot ran.start ran.requests ran.out) (LeavesHistory text catalogue history least ran.rules ran.start ran.requests ran.out)
+    (λ u standing. standing.images) (λ u v standing at. left text catalogue history least ran.spot ran.rules ran.start ran.requests ran.out u v standing at) (all_known known) (all_known known') (ran.exit text catalogue history least)

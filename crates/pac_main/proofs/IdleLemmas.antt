@@ -14,10 +14,11 @@ use Rattle.pac_store.specs.Images.{IfImagesKnown}
 use Rattle.pac_store.proofs.ImageLemmas.{images-any}
 use Rattle.pac_request.specs.declared.request.Request.{Request}
 use Rattle.pac_request.specs.declared.request.Request.TheVariants as request
+use Rattle.pac_session.specs.Groups.{LogSpot}
 use Rattle.pac_session.specs.Session.{Rules, SessionState}
-use Rattle.pac_recover.specs.declared.errors.LoadError.TheVariants as load
-use Rattle.pac_recover.specs.declared.errors.RecoverError.TheVariants as recover
-use Rattle.pac_engine.proofs.DeviceLemmas.{rest-known}
+use Rattle.pac_restore.specs.declared.errors.LoadError.TheVariants as load
+use Rattle.pac_restore.specs.declared.errors.RecoverError.TheVariants as recover
+use Rattle.pac_outside.proofs.KnownDevices.{rest-known}
 use Rattle.pac_run.specs.Asked.{TookAtMost}
 use Rattle.pac_run.specs.Opening.{AllStand}
 use Rattle.pac_run.specs.Run.{AtExit, AtMoments, IsBegun, IsRun, WhileAllStand}
@@ -70,16 +71,19 @@ idle_rules group_size limit = record { catalogue = no_catalogue; limit = limit; 
 abbrev idle_start : SessionState
 idle_start = record { tables = empty; number = 0 }
 
+abbrev idle_spot : LogSpot
+idle_spot = record { place = 0; reach = 0; next = 0 }
+
 -- there was no memory for the arguments
 abbrev pub no_memory : RunStop
 no_memory = run.Opening (recover.Load load.NoMemory)
 
-idle_begun : (rules : Rules) (place : ℕ) (start : SessionState) (known : Devices (Option DiskHistory)) → IfImagesKnown (λ images. IsUnopened (Err no_memory) [] ⊎ IsBegun rules place start images) known
-idle_begun rules place start = images-any (λ images. IsUnopened (Err no_memory) [] ⊎ IsBegun rules place start images) (λ images. inl ((recover.Load load.NoMemory, refl), refl))
+idle_begun : (rules : Rules) (spot : LogSpot) (start : SessionState) (known : Devices (Option DiskHistory)) → IfImagesKnown (λ images. IsUnopened (Err no_memory) [] ⊎ IsBegun rules spot start images) known
+idle_begun rules spot start = images-any (λ images. IsUnopened (Err no_memory) [] ⊎ IsBegun rules spot start images) (λ images. inl ((recover.Load load.NoMemory, refl), refl))
 
-idle_exit : (rules : Rules) (start : SessionState) (known : Devices (Option DiskHistory)) → WhileAllStand (λ text catalogue history least. AtExit text catalogue history rules 0 start [] []) known known
+idle_exit : (rules : Rules) (start : SessionState) (known : Devices (Option DiskHistory)) → WhileAllStand (λ text catalogue history least. AtExit text catalogue history rules idle_spot start [] []) known known
 idle_exit rules start known = λ text catalogue history least.
-    rest-known (AllStand text catalogue history least) (AtExit text catalogue history rules 0 start [] []) (λ devices stand. inl (refl, λ images are. are)) (all_known known)
+    rest-known (AllStand text catalogue history least) (AtExit text catalogue history rules idle_spot start [] []) (λ devices stand. inl (refl, λ images are. are)) (all_known known)
 
 idle_moments : (rules : Rules) (start : SessionState) (known : Devices (Option DiskHistory)) → WhileAllStand (λ text catalogue history least. AtMoments text catalogue history least rules start []) known known
 idle_moments rules start known = λ text catalogue history least.
@@ -103,11 +107,12 @@ idle-run group_size limit left held known faulted = record {
   limited = refl;
   most = refl;
   start = idle_start;
-  place = 0;
-  begun = idle_begun (idle_rules group_size limit) 0 idle_start known;
+  spot = idle_spot;
+  begun = idle_begun (idle_rules group_size limit) idle_spot idle_start known;
   prefix = record { count = 0; is = refl };
   whole = tt;
   exact = λ e. absurd e;
+  large = λ bytes e. absurd cc;
   full = λ need e. absurd cc;
   torn = λ e. absurd cc;
   slots = λ none. refl;

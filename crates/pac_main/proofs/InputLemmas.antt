@@ -17,7 +17,7 @@ use Rattle.pac_main.specs.Causes.{GivesNoScript, IsNoScript, IsUnread}
 use Rattle.pac_main.specs.declared.input.InputError.{InputError}
 use Rattle.pac_main.specs.declared.input.InputError.TheVariants as input
 use Rattle.pac_main.specs.Inputs.{input_of_read, input_of_script}
-use Rattle.pac_recover.specs.Gates.{RunOn}
+use Rattle.pac_restore.specs.Batches.{RunOn}
 use Rattle.pac_main.specs.Replay.{IsReadAs, IsScriptOf}
 use Rattle.pac_main.specs.Streams.{Observed, AnyFaulted}
 use Rattle.pac_main.proofs.BatchLemmas.{running-batches}

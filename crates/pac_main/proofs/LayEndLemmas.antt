@@ -3,8 +3,8 @@ use Rattle.std.proofs.Common.{◌≡◌, ◌∙◌, ◌<◌, ◌⊎◌, inl, inr
 use Rattle.std.specs.Prelude.{IfSome, IsSomeAnd}
 use Rattle.pac_base.specs.declared.refusal.Refusal.{Refusal}
 use Rattle.pac_base.specs.declared.refusal.Refusal.TheVariants as refusal
-use Rattle.pac_recover.specs.Limits.{IsFirstOver}
-use Rattle.pac_recover.specs.declared.limit.TooManyRows.{TooManyRows}
+use Rattle.pac_restore.specs.Limits.{IsFirstOver}
+use Rattle.pac_restore.specs.declared.limit.TooManyRows.{TooManyRows}
 use Rattle.pac_run.specs.declared.limits.TheConstants.{MAX_INPUT}
 use Rattle.pac_types.specs.Execution.{first_over}
 use Rattle.pac_script.specs.declared.script_fault.ScriptFault.{ScriptFault}

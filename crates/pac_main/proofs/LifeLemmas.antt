@@ -1,9 +1,8 @@
 -- What is said of a `run` makes it a run of a store's life.
 use Rattle.std.proofs.Common.{◌≡◌, ℕ, Option, Some, refl, subst}
-use Rattle.pac_outside.specs.Devices.{all_known}
+use Rattle.pac_outside.specs.Devices.{WhileKnown, all_known}
 use Rattle.pac_outside.specs.Disk.{DiskHistory}
 use Rattle.pac_outside.specs.declared.devices.Devices.{Devices}
-use Rattle.pac_engine.specs.Standing.{WhileKnown}
 use Rattle.pac_main.specs.Headline.{IsRunThat, OneRun}
 use Rattle.pac_main.specs.Histories.{FoundStanding, LeavesHistory}
 use Rattle.pac_main.specs.Run.{RunEnds}

@@ -1,28 +1,23 @@
 -- The lists of batches one after another, and how `replay --images` writes them.
-use Rattle.std.proofs.Common.{◌≡◌, ◌∙◌, ◌<◌, ◌+◌, ℕ, zero, suc, List, [], ◌∷◌, ◌++◌, length, take, drop, get_or, map, Result, Ok, Err, refl, sym, ap, subst, append_assoc, append-nil, arith}
+use Rattle.std.proofs.Common.{◌≡◌, ◌∙◌, ◌<◌, ◌+◌, ℕ, zero, suc, List, [], ◌∷◌, ◌++◌, length, take, drop, get_or, Result, Ok, Err, refl, sym, ap, subst, append_assoc, append-nil, arith}
 use Rattle.std.specs.FinMap.{empty}
-use Rattle.std.specs.List.{All, AllByRecursion}
 use Rattle.std.proofs.lemmas.List.{length-append, take_more, take-append-drop, drop_more}
 use Rattle.std.proofs.lemmas.List.Concat.{flat_map-append}
-use Rattle.std.proofs.lemmas.List.Elements.{All-get_or, All-tail, recursion_from_All}
 use Rattle.pac_value.specs.Expressions.{◌>>=◌}
 use Rattle.pac_value.specs.State.{Tables}
 use Rattle.pac_ops.specs.declared.batch.Batch.{Batch}
 use Rattle.pac_ops.specs.declared.note.Note.{Note}
 use Rattle.pac_ops.specs.declared.transaction.Change.{Change}
 use Rattle.pac_ops.specs.declared.transaction.Txn.{Txn}
-use Rattle.pac_ops.specs.Shapes.{RecordsFit}
 use Rattle.pac_types.specs.declared.procedure.Proc.{Proc}
 use Rattle.pac_types.specs.declared.table.Table.{Table}
 use Rattle.pac_types.specs.Execution.{txn_meaning, in_txn, serial}
-use Rattle.pac_types.specs.Fits.{shape}
 use Rattle.pac_types.specs.Meaning.{Abort}
 use Rattle.pac_types.proofs.ExecutionLemmas.{serial-parts}
-use Rattle.pac_entry.specs.Entries.{ChangeHasBytes, IsRecord}
-use Rattle.pac_recover.specs.Gates.{RunOn, txns_in}
+use Rattle.pac_restore.specs.Batches.{RunOn, txns_in}
 use Rattle.pac_serial.specs.Writes.{after_images, if_well}
 use Rattle.pac_tuple.specs.AfterImages.{all_after_images}
-use Rattle.pac_tuple.specs.Images.{AreTxnImages, images_bytes}
+use Rattle.pac_tuple.specs.Images.{images_bytes}
 use Rattle.pac_main.specs.Record.{AreListsOf, lists_bytes}
 
 -- ---- parts of a list of transactions

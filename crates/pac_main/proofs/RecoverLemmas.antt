@@ -11,12 +11,14 @@ use Rattle.pac_types.specs.Typing.{CatalogueState}
 use Rattle.pac_store.specs.Images.{IfImagesKnown}
 use Rattle.pac_store.specs.Stands.{StandsFor}
 use Rattle.pac_store.proofs.ImageLemmas.{images-any, images-then, where-known}
-use Rattle.pac_recover.specs.declared.errors.LoadError.TheVariants as load
-use Rattle.pac_recover.specs.declared.errors.RecoverError.{RecoverError}
-use Rattle.pac_recover.specs.declared.errors.RecoverError.TheVariants as recover
+use Rattle.pac_restore.specs.declared.errors.LoadError.TheVariants as load
+use Rattle.pac_restore.specs.declared.errors.RecoverError.{RecoverError}
+use Rattle.pac_restore.specs.declared.errors.RecoverError.TheVariants as recover
 use Rattle.pac_recover.specs.declared.recovery.Recovered.{Recovered}
-use Rattle.pac_recover.specs.Recovering.{IsPrefixOverLimit, IsRecoveredFrom, IsRecoveredPrefix, Recovers}
-use Rattle.pac_recover.specs.Refusals.{AreRefused}
+use Rattle.pac_recover.specs.Recovering.{Recovers}
+use Rattle.pac_restore.specs.Restoring.{IsRecoveredFrom}
+use Rattle.pac_restore.specs.Prefixes.{IsPrefixOverLimit, IsRecoveredPrefix}
+use Rattle.pac_restore.specs.Restoring.{AreRefused}
 use Rattle.pac_report.specs.Dump.{tables_text}
 use Rattle.pac_main.specs.Causes.{IsPrefixUnrecovered, IsRecovered, IsUnrecovered, RecoverStops}
 use Rattle.pac_main.specs.Recover.{IsDumpOfPrefix, IsRecovery, IsRefusedStore, RecoverEnds, RecoversPrefix, StaysInLimit, StoredInLimit}
@@ -100,7 +102,7 @@ module _ (limit : ℕ) (before : Devices (Option DiskHistory)) (recovered : Reco
   pub is-recovery : IsRecovery limit before P
   is-recovery = record { catalogue = recovered.catalogue; tables = recovered.tables.rows; txns = recovered.txns; is = found.is; within = found.within; has = has }
 
-  one_prefix : (catalogue : CatalogueState) (history : List Txn) (least : ℕ) → IsRecoveredPrefix catalogue history least recovered → IsDumpOfPrefix limit catalogue history least P
+  one_prefix : (catalogue : CatalogueState) (history : List Txn) (least : ℕ) → IsRecoveredPrefix catalogue history least recovered.catalogue recovered.tables.rows recovered.txns → IsDumpOfPrefix limit catalogue history least P
   one_prefix catalogue history least f = record {
     tables = recovered.tables.rows;
     are = record { count = recovered.txns; enough = f.enough; within = f.within; ends = f.ends };

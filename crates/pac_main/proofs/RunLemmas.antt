@@ -6,7 +6,7 @@ use Rattle.std.specs.List.{AllByRecursion}
 use Rattle.std.proofs.lemmas.List.{length-append}
 use Rattle.std.proofs.Math.Seq.{take-nil}
 use Rattle.pac_ops.specs.declared.transaction.Txn.{Txn}
-use Rattle.pac_outside.specs.Devices.{OneFaulted, each}
+use Rattle.pac_outside.specs.Devices.{OneFaulted, WhileAllKnown, each}
 use Rattle.pac_outside.specs.Disk.{DiskHistory}
 use Rattle.pac_outside.specs.Parts.{reads_of}
 use Rattle.pac_outside.specs.declared.devices.Devices.{Devices}
@@ -14,17 +14,15 @@ use Rattle.pac_types.specs.Typing.{CatalogueState}
 use Rattle.pac_store.specs.Images.{IfImagesKnown}
 use Rattle.pac_store.specs.Stands.{StandsFor}
 use Rattle.pac_store.proofs.ImageLemmas.{images-any, images-then, where-known}
-use Rattle.pac_recover.specs.declared.errors.Damage.TheVariants.{Log, Slot}
-use Rattle.pac_recover.specs.declared.errors.LoadError.TheVariants as load
-use Rattle.pac_recover.specs.declared.errors.RecoverError.{RecoverError}
-use Rattle.pac_recover.specs.declared.errors.RecoverError.TheVariants as recover
-use Rattle.pac_recover.specs.Recovering.{IsPrefixOverLimit}
-use Rattle.pac_recover.specs.Refusals.{AreRefused}
-use Rattle.pac_recover.proofs.StandsLemmas.{is-store, no-abort, no-log-damage, no-slot-damage, over-prefix}
-use Rattle.pac_session.specs.Groups.{Group}
+use Rattle.pac_restore.specs.declared.errors.LoadError.TheVariants as load
+use Rattle.pac_restore.specs.declared.errors.RecoverError.{RecoverError}
+use Rattle.pac_restore.specs.declared.errors.RecoverError.TheVariants as recover
+use Rattle.pac_restore.specs.Prefixes.{IsPrefixOverLimit}
+use Rattle.pac_restore.specs.Restoring.{AreRefused}
+use Rattle.pac_restore.proofs.StandsLemmas.{is-store, no-abort, no-damage, over-prefix}
+use Rattle.pac_session.specs.Groups.{Group, LogSpot}
 use Rattle.pac_session.specs.Session.{Rules, SessionState}
 use Rattle.pac_engine.specs.Closing.{GroupFits}
-use Rattle.pac_engine.specs.Standing.{WhileAllKnown}
 use Rattle.pac_request.specs.declared.request.Request.{Request}
 use Rattle.pac_request.specs.declared.request.Reply.{Reply}
 use Rattle.pac_run.specs.Run.{IsRun}
@@ -88,9 +86,8 @@ module _ (limit : ℕ) (source sink : Observed) (after : Devices (Option DiskHis
   held_by before = record { before = before; after = after; faults_before = was; faults_after = is }
 
   prefix_here : (known : Devices DiskHistory) (why : RunStop) → RunCause limit source sink (held_by (each Some known)) why → StandsFor text catalogue history least (reads_of known) → IsPrefixStop limit catalogue history least why
-  prefix_here known (run.Opening (recover.Load load.NoStore)) h stands = is-store text catalogue history least (reads_of known) stands h.0
-  prefix_here known (run.Opening (recover.Load (load.Damaged (Log at kind)))) h stands = no-log-damage text catalogue history least (reads_of known) stands at kind h.0
-  prefix_here known (run.Opening (recover.Load (load.Damaged (Slot slot at kind)))) h stands = no-slot-damage text catalogue history least (reads_of known) stands slot at kind h.0
+  prefix_here known (run.Opening (recover.Load load.NoStore)) h stands = is-store text catalogue history least known stands h.0
+  prefix_here known (run.Opening (recover.Load (load.Damaged damage))) h stands = no-damage text catalogue history least known stands damage h.0
   prefix_here known (run.Opening (recover.Load load.DiskFault)) h stands = tt
   prefix_here known (run.Opening (recover.Load load.NoMemory)) h stands = tt
   prefix_here known (run.Opening (recover.AbortInLog note)) h stands = no-abort text catalogue history least (reads_of known) stands note h.0
@@ -184,17 +181,17 @@ no_memory_disk (run.LogFull need) memory e = e
 no_memory_disk run.TooLong memory e = e
 no_memory_disk (run.TooLarge bytes) memory e = e
 
-none_given : (rules : Rules) (place : ℕ) (start : SessionState) (requests : List Request) (given : List Reply) (why : RunStop)
-    → IsOneOf (status_of (stop_of_run why)) (3 ∷ 4 ∷ 5 ∷ []) → IsStopped rules place start requests given why → given ≡ []
-none_given rules place start requests given why early (inl none) = none.2
-none_given rules place start requests given (run.Opening error) early (inr at) = absurd at
-none_given rules place start requests given run.InputFault early (inr at) = let no : ◌≡◌ {A = Bool} false true = early in absurd cc
-none_given rules place start requests given run.OutputFault early (inr at) = let no : ◌≡◌ {A = Bool} false true = early in absurd cc
-none_given rules place start requests given run.DiskFault early (inr at) = let no : ◌≡◌ {A = Bool} false true = early in absurd cc
-none_given rules place start requests given run.NoMemory early (inr at) = let no : ◌≡◌ {A = Bool} false true = early in absurd cc
-none_given rules place start requests given (run.LogFull need) early (inr at) = let no : ◌≡◌ {A = Bool} false true = early in absurd cc
-none_given rules place start requests given run.TooLong early (inr at) = let no : ◌≡◌ {A = Bool} false true = early in absurd cc
-none_given rules place start requests given (run.TooLarge bytes) early (inr at) = let no : ◌≡◌ {A = Bool} false true = early in absurd cc
+none_given : (rules : Rules) (spot : LogSpot) (start : SessionState) (requests : List Request) (given : List Reply) (why : RunStop)
+    → IsOneOf (status_of (stop_of_run why)) (3 ∷ 4 ∷ 5 ∷ []) → IsStopped rules spot start requests given why → given ≡ []
+none_given rules spot start requests given why early (inl none) = none.2
+none_given rules spot start requests given (run.Opening error) early (inr at) = absurd at
+none_given rules spot start requests given run.InputFault early (inr at) = let no : ◌≡◌ {A = Bool} false true = early in absurd cc
+none_given rules spot start requests given run.OutputFault early (inr at) = let no : ◌≡◌ {A = Bool} false true = early in absurd cc
+none_given rules spot start requests given run.DiskFault early (inr at) = let no : ◌≡◌ {A = Bool} false true = early in absurd cc
+none_given rules spot start requests given run.NoMemory early (inr at) = let no : ◌≡◌ {A = Bool} false true = early in absurd cc
+none_given rules spot start requests given (run.LogFull need) early (inr at) = let no : ◌≡◌ {A = Bool} false true = early in absurd cc
+none_given rules spot start requests given run.TooLong early (inr at) = let no : ◌≡◌ {A = Bool} false true = early in absurd cc
+none_given rules spot start requests given (run.TooLarge bytes) early (inr at) = let no : ◌≡◌ {A = Bool} false true = early in absurd cc
 
 module _ (group_size limit : ℕ) (source sink errors : Observed) (before after : Devices (Option DiskHistory)) (was is : Devices ℕ) where
   abbrev devices : ObservedDevices
@@ -257,7 +254,7 @@ module _ (group_size limit : ℕ) (source sink errors : Observed) (before after 
   module _ (text : List ℕ) (catalogue : CatalogueState) (history : List Txn) (least : ℕ) (known : Devices DiskHistory) where
     -- nothing stops the run but running out of memory
     runs_on : (why : RunStop) → RunCause limit source sink (record devices { before = each Some known }) why → IsPrefixStop limit catalogue history least why → (ran : Ran (Err why)) → StoredInLimit limit (reads_of known) → IsFaultless devices sink → (AnyFaulted source → ⊥)
-        → HaveRoom ran.rules ran.place ran.start ran.requests → IsSomeAnd source.before Short → IsOneOf (status_of (stop_of_run why)) (0 ∷ 9 ∷ [])
+        → HaveRoom ran.rules ran.spot ran.start ran.requests → IsSomeAnd source.before Short → IsOneOf (status_of (stop_of_run why)) (0 ∷ 9 ∷ [])
     runs_on (run.Opening (recover.Load load.NoStore)) h f ran stays none reads room short = absurd f
     runs_on (run.Opening (recover.Load (load.Damaged damage))) h f ran stays none reads room short = absurd f
     runs_on (run.Opening (recover.Load load.DiskFault)) h f ran stays none reads room short = absurd (none.0 (h.1 refl))
@@ -270,35 +267,35 @@ module _ (group_size limit : ℕ) (source sink errors : Observed) (before after 
     runs_on run.NoMemory h f ran stays none reads room short = refl
     runs_on (run.LogFull need) h f ran stays none reads room short = absurd (no_room ran.stopped)
       where
-        no_room : IsStopped ran.rules ran.place ran.start ran.requests ran.given (run.LogFull need) → ⊥
+        no_room : IsStopped ran.rules ran.spot ran.start ran.requests ran.given (run.LogFull need) → ⊥
         no_room (inl opening) = let no : run.LogFull need ≡ run.Opening opening.0.0 = opening.0.1 in absurd cc
-        no_room (inr at) = let fits = each_fits (closed_groups ran.rules ran.place ran.start ran.requests) at.before at.rest at.group at.split room.log at.here.some in omega (arith, fits, at.here.over)
+        no_room (inr at) = let fits = each_fits (closed_groups ran.rules ran.spot ran.start ran.requests) at.before at.rest at.group at.split room.log at.here.some in omega (arith, fits, at.here.over)
     runs_on run.TooLong h f ran stays none reads room short =
         let given = some_is Short source.before short in
         let long = ran.long refl in
         absurd (not_long source.after given.0 long.bytes given.2 long.more (sym given.1 ∙ long.gave))
     runs_on (run.TooLarge bytes) h f ran stays none reads room short = absurd (no_room ran.stopped)
       where
-        no_room : IsStopped ran.rules ran.place ran.start ran.requests ran.given (run.TooLarge bytes) → ⊥
+        no_room : IsStopped ran.rules ran.spot ran.start ran.requests ran.given (run.TooLarge bytes) → ⊥
         no_room (inl opening) = let no : run.TooLarge bytes ≡ run.Opening opening.0.0 = opening.0.1 in absurd cc
         no_room (inr at) = room.slots bytes ran.given at
 
   runs_all : (why : RunStop) → Cause why → (ran : Ran (Err why)) → (text : List ℕ) (catalogue : CatalogueState) (history : List Txn) (least : ℕ)
       → IfImagesKnown (λ images. StandsFor text catalogue history least images → StoredInLimit limit images → IsFaultless devices sink → (AnyFaulted source → ⊥)
-      → HaveRoom ran.rules ran.place ran.start ran.requests → IsSomeAnd source.before Short → IsOneOf (status_of (stop_of_run why)) (0 ∷ 9 ∷ [])) before
+      → HaveRoom ran.rules ran.spot ran.start ran.requests → IsSomeAnd source.before Short → IsOneOf (status_of (stop_of_run why)) (0 ∷ 9 ∷ [])) before
   runs_all why h ran text catalogue history least = where-known Of (λ images. StandsFor text catalogue history least images → StoredInLimit limit images → IsFaultless devices sink → (AnyFaulted source → ⊥)
-      → HaveRoom ran.rules ran.place ran.start ran.requests → IsSomeAnd source.before Short → IsOneOf (status_of (stop_of_run why)) (0 ∷ 9 ∷ []))
+      → HaveRoom ran.rules ran.spot ran.start ran.requests → IsSomeAnd source.before Short → IsOneOf (status_of (stop_of_run why)) (0 ∷ 9 ∷ []))
       (λ known of stands. runs_on text catalogue history least known why of.0 (of.1 stands) ran) before (h, run-prefix limit source sink after was is text catalogue history least before why h)
     where
       Of : Devices (Option DiskHistory) → Type 0
       Of d = RunCause limit source sink (record devices { before = d }) why × IfImagesKnown (λ images. StandsFor text catalogue history least images → IsPrefixStop limit catalogue history least why) d
 
   -- the status is one of those
-  ends_well : (n : ℕ) (rules : Rules) (place : ℕ) (start : SessionState) (requests : List Request) → IsOneOf n (0 ∷ 9 ∷ []) → (text : List ℕ) (catalogue : CatalogueState) (history : List Txn) (least : ℕ)
+  ends_well : (n : ℕ) (rules : Rules) (spot : LogSpot) (start : SessionState) (requests : List Request) → IsOneOf n (0 ∷ 9 ∷ []) → (text : List ℕ) (catalogue : CatalogueState) (history : List Txn) (least : ℕ)
       → IfImagesKnown (λ images. StandsFor text catalogue history least images → StoredInLimit limit images → IsFaultless devices sink → (AnyFaulted source → ⊥)
-      → HaveRoom rules place start requests → IsSomeAnd source.before Short → IsOneOf n (0 ∷ 9 ∷ [])) before
-  ends_well n rules place start requests one text catalogue history least =
-      images-any (λ images. StandsFor text catalogue history least images → StoredInLimit limit images → IsFaultless devices sink → (AnyFaulted source → ⊥) → HaveRoom rules place start requests → IsSomeAnd source.before Short → IsOneOf n (0 ∷ 9 ∷ []))
+      → HaveRoom rules spot start requests → IsSomeAnd source.before Short → IsOneOf n (0 ∷ 9 ∷ [])) before
+  ends_well n rules spot start requests one text catalogue history least =
+      images-any (λ images. StandsFor text catalogue history least images → StoredInLimit limit images → IsFaultless devices sink → (AnyFaulted source → ⊥) → HaveRoom rules spot start requests → IsSomeAnd source.before Short → IsOneOf n (0 ∷ 9 ∷ []))
       (λ images stands stays none reads room short. one) before
 
   itself : (why : RunStop) → Ran (Err why) → Cause why → LineReported why → Left why → Quiet why → RunEnds group_size limit (status_of (stop_of_run why)) source sink errors devices
@@ -317,7 +314,7 @@ module _ (group_size limit : ℕ) (source sink errors : Observed) (before after 
         let t = run_over_of why five in
         let cause = (subst Cause t.is h).0 in
         (t.name, t.rows, subst (λ (n : ℕ). IsStop why (run.Opening (recover.RowsOver t.name t.rows n))) cause.0 (end_is why (run.Opening (recover.RowsOver t.name t.rows t.most)) t.is), cause.1, subst (λ (n : ℕ). IsReported errors (line_of (stop.RowsOver t.name t.rows n))) cause.0 (subst LineReported t.is line));
-    unserved = λ early. no_text ran.rules.catalogue ran.given ran.out (none_given ran.rules ran.place ran.start ran.requests ran.given why early ran.stopped) ran.written;
+    unserved = λ early. no_text ran.rules.catalogue ran.given ran.out (none_given ran.rules ran.spot ran.start ran.requests ran.given why early ran.stopped) ran.written;
     input_fault = λ six. (end_is why run.InputFault (run_input_of why six), subst Cause (run_input_of why six) h);
     output_fault = λ seven. (end_is why run.OutputFault (run_output_of why seven), subst Cause (run_output_of why seven) h);
     disk_fault = λ eight. (run_disk_of why eight, disk_cause why (run_disk_of why eight) h);
@@ -352,7 +349,7 @@ module _ (group_size limit : ℕ) (source sink errors : Observed) (before after 
     too_large = λ e. absurd (omega (arith, nine, e));
     untouched = λ early. let no : ◌≡◌ {A = Bool} false true = subst (λ (m : ℕ). IsOneOf m (3 ∷ 4 ∷ 5 ∷ [])) nine early in absurd cc;
     quiet = λ eight. quiet;
-    complete = ends_well n ran.rules ran.place ran.start ran.requests (subst (λ (m : ℕ). IsOneOf m (0 ∷ 9 ∷ [])) (sym nine) refl);
+    complete = ends_well n ran.rules ran.spot ran.start ran.requests (subst (λ (m : ℕ). IsOneOf m (0 ∷ 9 ∷ [])) (sym nine) refl);
   }
 
   pub run-ends : (why : RunStop) (reported : Stop) (n : ℕ) → n ≡ status_of reported → Reported (stop_of_run why) reported → Ran (Err why) → Cause why → IsReported errors (line_of reported) → Left why → Quiet why → RunEnds group_size limit n source sink errors devices
@@ -382,7 +379,7 @@ module _ (group_size limit : ℕ) (source sink errors : Observed) (before after 
     too_large = λ e. absurd (omega (arith, e));
     untouched = λ early. let no : ◌≡◌ {A = Bool} false true = early in absurd cc;
     quiet = λ eight. quiet;
-    complete = ends_well 0 ran.rules ran.place ran.start ran.requests refl;
+    complete = ends_well 0 ran.rules ran.spot ran.start ran.requests refl;
   }
 
 -- ---- running out of memory for the arguments: no stream and no device is called

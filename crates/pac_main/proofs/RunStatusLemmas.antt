@@ -1,9 +1,9 @@
 -- The stops of a run that end the command with each status.
 use Rattle.std.proofs.Common.{◌≡◌, ◌⊎◌, ℕ, List, inl, inr, refl, subst}
 use Rattle.pac_ops.specs.declared.note.Note.{Note}
-use Rattle.pac_recover.specs.declared.errors.Damage.{Damage}
-use Rattle.pac_recover.specs.declared.errors.LoadError.TheVariants as load
-use Rattle.pac_recover.specs.declared.errors.RecoverError.TheVariants as recover
+use Rattle.pac_restore.specs.declared.errors.Damage.{Damage}
+use Rattle.pac_restore.specs.declared.errors.LoadError.TheVariants as load
+use Rattle.pac_restore.specs.declared.errors.RecoverError.TheVariants as recover
 use Rattle.pac_run.specs.Stopping.{DeviceFailed}
 use Rattle.pac_run.specs.declared.stop.RunStop.{RunStop}
 use Rattle.pac_run.specs.declared.stop.RunStop.TheVariants as run

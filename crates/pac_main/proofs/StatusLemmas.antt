@@ -3,7 +3,7 @@ use Rattle.std.proofs.Common.{◌≡◌, ◌⊎◌, ℕ, zero, suc, List, inl, i
 use Rattle.pac_ops.specs.declared.note.Note.{Note}
 use Rattle.pac_script.specs.declared.script_fault.ScriptFault.{ScriptFault}
 use Rattle.pac_store.specs.declared.device.DeviceName.{DeviceName}
-use Rattle.pac_recover.specs.declared.errors.Damage.{Damage}
+use Rattle.pac_restore.specs.declared.errors.Damage.{Damage}
 use Rattle.pac_tuple.specs.declared.fault.ImageFault.{ImageFault}
 use Rattle.pac_main.specs.Stop.{status_of}
 use Rattle.pac_main.specs.declared.stop.Stop.{Stop}

@@ -9,9 +9,9 @@ use Rattle.pac_outside.specs.declared.devices.Devices.{Devices}
 use Rattle.pac_types.specs.Execution.{first_over}
 use Rattle.pac_store.specs.Made.{AreEmpty, IsFirstInUse, IsInUse}
 use Rattle.pac_store.specs.declared.device.DeviceName.{DeviceName}
-use Rattle.pac_store.specs.declared.device.DeviceName.TheVariants.{Log, SlotA, SlotB}
-use Rattle.pac_recover.specs.Limits.{IsFirstOver}
-use Rattle.pac_recover.specs.declared.limit.TooManyRows.{TooManyRows}
+use Rattle.pac_store.specs.declared.device.DeviceName.TheVariants.{Log, LogB, SlotA, SlotB}
+use Rattle.pac_restore.specs.Limits.{IsFirstOver}
+use Rattle.pac_restore.specs.declared.limit.TooManyRows.{TooManyRows}
 use Rattle.pac_run.specs.declared.limits.TheConstants.{MAX_INPUT}
 use Rattle.pac_script.specs.declared.script.Script.{Script}
 use Rattle.pac_flat.specs.declared.acceptance.AcceptFault.{AcceptFault}
@@ -303,8 +303,9 @@ module _ (source : Observed) (devices : ObservedDevices) where
   -- no device is in use where none has a byte
   none_used : (entry : Devices DiskHistory) → AreEmpty entry → (device : DeviceName) (length : ℕ) → IsFirstInUse device length entry → ⊥
   none_used entry empty Log length used = omega (arith, used.0, used.1, empty.0)
-  none_used entry empty SlotA length used = omega (arith, used.0, used.2, empty.1)
-  none_used entry empty SlotB length used = omega (arith, used.0, used.2, empty.2)
+  none_used entry empty LogB length used = omega (arith, used.0, used.2, empty.1)
+  none_used entry empty SlotA length used = omega (arith, used.0, used.2, empty.2)
+  none_used entry empty SlotB length used = omega (arith, used.0, used.2, empty.3)
 
   not_used : (entry : Devices DiskHistory) → AreEmpty entry → (device : DeviceName) (length : ℕ) → (after : Option (Devices DiskHistory)) → OnceKnown (IsInUse device length) (Some entry) after → ⊥
   not_used entry empty device length None used = used

@@ -8,11 +8,13 @@ use Rattle.pac_store.specs.Made.{IsInUse}
 use Rattle.pac_types.specs.declared.table.Table.{Table}
 use Rattle.pac_types.specs.Typing.{CatalogueState}
 use Rattle.pac_store.specs.Stands.{StandsFor}
-use Rattle.pac_recover.specs.Limits.{IsFirstOver}
-use Rattle.pac_recover.specs.Recovering.{AbortsIn, IsPrefixOverLimit, IsOverIn}
-use Rattle.pac_recover.specs.declared.errors.LoadError.TheVariants as load
-use Rattle.pac_recover.specs.declared.errors.RecoverError.TheVariants as recover
-use Rattle.pac_recover.specs.Refusals.{AreRefused, HasDamage, HasNoStore}
+use Rattle.pac_restore.specs.Limits.{IsFirstOver}
+use Rattle.pac_restore.specs.Restoring.{AbortsIn, IsOverIn}
+use Rattle.pac_restore.specs.Prefixes.{IsPrefixOverLimit}
+use Rattle.pac_restore.specs.declared.errors.LoadError.TheVariants as load
+use Rattle.pac_restore.specs.declared.errors.RecoverError.TheVariants as recover
+use Rattle.pac_restore.specs.Refusals.{AreRefusedAs}
+use Rattle.pac_restore.specs.Restoring.{AreRefused}
 use Rattle.pac_flat.specs.declared.acceptance.AcceptFault.{AcceptFault}
 use Rattle.pac_script.specs.declared.script.Script.{Script}
 use Rattle.pac_script.specs.declared.script_fault.ScriptFault.{ScriptFault}
@@ -158,8 +160,8 @@ InitStops source devices _ = ⊥
 
 -- why nothing is recovered
 abbrev pub IsUnrecovered : ℕ → ObservedDevices → Observed → Stop → Type 0
-IsUnrecovered limit devices sink stop.NoStore = HasNoStore devices.before
-IsUnrecovered limit devices sink (stop.Damaged damage) = HasDamage damage devices.before
+IsUnrecovered limit devices sink stop.NoStore = AreRefusedAs devices.before load.NoStore
+IsUnrecovered limit devices sink (stop.Damaged damage) = AreRefusedAs devices.before (load.Damaged damage)
 IsUnrecovered limit devices sink (stop.Aborted note) = IfImagesKnown (AbortsIn note) devices.before
 IsUnrecovered limit devices sink (stop.RowsOver name rows most) = (most ≡ limit) × IfImagesKnown (IsOverIn name rows limit) devices.before
 IsUnrecovered limit devices sink stop.OutputFault = AnyFaulted sink × IsRecovery limit devices.before (IsPrefixTaken sink)

@@ -84,8 +84,8 @@ AreNext history (run ∷ runs) (next ∷ nexts) last = IsNextRun history run nex
 abbrev pub IsKeptFrom : ℕ → List Txn → OneRun → List Txn → Type 0
 IsKeptFrom kept last run next = (number : ℕ) → Acknowledges run.out number → (number ≤ kept) × (take number last ≡ take number next)
 
--- What the last run left stands for the transactions that are committed in the end, and the log has all that the outputs of
--- the runs acknowledge.
+-- What the last run left stands for the transactions that are committed in the end, and the store has all that the outputs
+-- of the runs acknowledge.
 pub record KeepsAll (text : List ℕ) (catalogue : CatalogueState) (history : List Txn) (least : ℕ) (runs : List OneRun) (left : Devices DiskHistory) : Type 0 where
   pub nexts : List (List Txn)
   pub last : List Txn

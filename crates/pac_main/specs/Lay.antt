@@ -10,7 +10,7 @@ use Rattle.pac_types.specs.Typing.{CatalogueState}
 use Rattle.pac_bytes.specs.Reading.{from}
 use Rattle.pac_flat.specs.Unaccepted.{IsUnaccepted}
 use Rattle.pac_script.specs.Script.{MarkOf, text_before}
-use Rattle.pac_recover.specs.Limits.{IsFirstOver}
+use Rattle.pac_restore.specs.Limits.{IsFirstOver}
 use Rattle.pac_report.specs.Dump.{tables_text}
 use Rattle.pac_run.specs.declared.limits.TheConstants.{MAX_INPUT}
 use Rattle.pac_tuple.specs.declared.fault.ImageFault.{ImageFault}

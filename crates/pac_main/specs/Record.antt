@@ -5,7 +5,7 @@ use Rattle.std.specs.List.{AllByRecursion, flat_map}
 use Rattle.pac_value.specs.State.{Tables}
 use Rattle.pac_ops.specs.declared.transaction.Change.{Change}
 use Rattle.pac_types.specs.declared.table.Table.{Table}
-use Rattle.pac_recover.specs.Gates.{txns_in}
+use Rattle.pac_restore.specs.Batches.{txns_in}
 use Rattle.pac_script.specs.declared.script.Script.{Script}
 use Rattle.pac_script.specs.Script.{MarkOf}
 use Rattle.pac_tuple.specs.AfterImages.{all_after_images}

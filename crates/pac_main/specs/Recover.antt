@@ -10,9 +10,11 @@ use Rattle.pac_types.specs.Execution.{first_over}
 use Rattle.pac_types.specs.Typing.{CatalogueState}
 use Rattle.pac_store.specs.Images.{Images, IfImagesKnown}
 use Rattle.pac_store.specs.Stands.{EndsWith, StandsFor}
-use Rattle.pac_recover.specs.declared.errors.Damage.{Damage}
-use Rattle.pac_recover.specs.Recovering.{AbortsIn, IsPrefixOverLimit, IsOverIn, IsRecoveredFrom}
-use Rattle.pac_recover.specs.Refusals.{HasDamage, HasNoStore}
+use Rattle.pac_restore.specs.declared.errors.Damage.{Damage}
+use Rattle.pac_restore.specs.declared.errors.LoadError.TheVariants as load
+use Rattle.pac_restore.specs.Restoring.{AbortsIn, IsOverIn, IsRecoveredFrom}
+use Rattle.pac_restore.specs.Prefixes.{IsPrefixOverLimit}
+use Rattle.pac_restore.specs.Refusals.{AreRefusedAs}
 use Rattle.pac_report.specs.Dump.{tables_text}
 use Rattle.pac_main.specs.Stop.{abort_line, damaged_line, rows_line}
 use Rattle.pac_main.specs.Streams.{Observed, ObservedDevices, AnyFaulted, IsFaultless, IsTaken, IsPrefixTaken, IsReported, IsOneOf}
@@ -63,7 +65,7 @@ pub record RecoversPrefix (limit status : ℕ) (catalogue : CatalogueState) (his
 
 -- there is no store, or this is its first damage, and the line that is reported says so
 abbrev pub IsRefusedStore : Devices (Option DiskHistory) → Observed → Type 0
-IsRefusedStore devices errors = (HasNoStore devices × IsReported errors (codes "no store\n")) ⊎ ((damage : Damage) × HasDamage damage devices × IsReported errors (damaged_line damage))
+IsRefusedStore devices errors = (AreRefusedAs devices load.NoStore × IsReported errors (codes "no store\n")) ⊎ ((damage : Damage) × AreRefusedAs devices (load.Damaged damage) × IsReported errors (damaged_line damage))
 
 -- after all that is stored in these images no table has more rows than the limit
 abbrev pub StoredInLimit : ℕ → Images → Type 0

@@ -7,9 +7,9 @@ use Rattle.pac_tables.specs.Joined.{Held}
 use Rattle.pac_types.specs.Execution.{serial, first_over}
 use Rattle.pac_serial.specs.declared.serial.AllError.{AllError}
 use Rattle.pac_serial.specs.declared.serial.AllError.TheVariants.{Abort, NoMemory}
-use Rattle.pac_recover.specs.Limits.{IsFirstOver}
+use Rattle.pac_restore.specs.Limits.{IsFirstOver}
 use Rattle.pac_report.specs.Dump.{tables_text}
-use Rattle.pac_recover.specs.Gates.{txns_in}
+use Rattle.pac_restore.specs.Batches.{txns_in}
 use Rattle.pac_script.specs.declared.script.Script.{Script}
 use Rattle.pac_script.specs.declared.script_fault.ScriptFault.{ScriptFault}
 use Rattle.pac_script.specs.Script.{ScriptSays}

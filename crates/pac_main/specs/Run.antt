@@ -3,18 +3,18 @@ use Rattle.std.specs.Prelude.{◌≡◌, ◌≢◌, ◌≤◌, ℕ, List, [], �
 use Rattle.std.specs.List.{AllByRecursion}
 use Rattle.pac_ops.specs.declared.note.Note.{Note}
 use Rattle.pac_ops.specs.declared.transaction.Txn.{Txn}
-use Rattle.pac_outside.specs.Devices.{AreSettled, IfAllKnown, OneFaulted}
+use Rattle.pac_outside.specs.Devices.{AreSettled, IfAllKnown, OneFaulted, WhileAllKnown}
 use Rattle.pac_types.specs.Typing.{CatalogueState}
 use Rattle.pac_store.specs.Images.{IfImagesKnown}
 use Rattle.pac_store.specs.Stands.{StandsFor}
-use Rattle.pac_recover.specs.Recovering.{AbortsIn, IsPrefixOverLimit, IsOverIn}
-use Rattle.pac_recover.specs.declared.errors.RecoverError.TheVariants as recover
+use Rattle.pac_restore.specs.Restoring.{AbortsIn, IsOverIn}
+use Rattle.pac_restore.specs.Prefixes.{IsPrefixOverLimit}
+use Rattle.pac_restore.specs.declared.errors.RecoverError.TheVariants as recover
 use Rattle.pac_request.specs.declared.request.Reply.{Reply}
 use Rattle.pac_request.specs.declared.request.Request.{Request}
-use Rattle.pac_session.specs.Groups.{cut}
+use Rattle.pac_session.specs.Groups.{LogSpot, cut}
 use Rattle.pac_session.specs.Session.{Rules, SessionState}
 use Rattle.pac_engine.specs.Closing.{GroupFits, IsTooLarge}
-use Rattle.pac_engine.specs.Standing.{WhileAllKnown}
 use Rattle.pac_run.specs.declared.limits.TheConstants.{MAX_INPUT}
 use Rattle.pac_run.specs.Run.{IsRun}
 use Rattle.pac_run.specs.Stopping.{DeviceFailed, RefusesStore, closed_groups}
@@ -38,10 +38,11 @@ pub record LeavesStore (input output : Observed) (devices : ObservedDevices) : T
   pub unread : input.after ≡ input.before
   pub unwritten : output.after ≡ output.before
 
--- These requests meet no limit of the store: each group that they close fits the log, and no checkpoint is too large for a slot.
-pub record HaveRoom (rules : Rules) (place : ℕ) (start : SessionState) (requests : List Request) : Type 0 where
-  pub log : AllByRecursion GroupFits (closed_groups rules place start requests)
-  pub slots : (bytes : ℕ) (given : List Reply) → ¬ IsTooLarge rules place start (cut rules start requests).closed bytes given
+-- These requests meet no limit of the store: each group that they close fits the log's segment, and no checkpoint is too large for a
+-- slot.
+pub record HaveRoom (rules : Rules) (spot : LogSpot) (start : SessionState) (requests : List Request) : Type 0 where
+  pub log : AllByRecursion GroupFits (closed_groups rules spot start requests)
+  pub slots : (bytes : ℕ) (given : List Reply) → ¬ IsTooLarge rules spot start (cut rules start requests).closed bytes given
 
 -- How `run` ends, with that many replies in a group at most and under a limit of rows: the statuses that it may have, what was
 -- read, written and left on the devices, and a line for each status that has a cause.
@@ -75,4 +76,4 @@ pub record RunEnds (group_size limit status : ℕ) (input output errors : Observ
   -- meets a limit of the store, and the input isn't too long, all is done, or there was no memory.
   pub complete : (text : List ℕ) (catalogue : CatalogueState) (history : List Txn) (least : ℕ)
       → IfImagesKnown (λ images. StandsFor text catalogue history least images → StoredInLimit limit images → IsFaultless devices output → ¬ AnyFaulted input
-      → HaveRoom is.rules is.place is.start is.requests → IsSomeAnd input.before (λ bytes. length bytes ≤ MAX_INPUT) → IsOneOf status (0 ∷ 9 ∷ [])) devices.before
+      → HaveRoom is.rules is.spot is.start is.requests → IsSomeAnd input.before (λ bytes. length bytes ≤ MAX_INPUT) → IsOneOf status (0 ∷ 9 ∷ [])) devices.before

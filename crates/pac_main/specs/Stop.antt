@@ -12,22 +12,24 @@ use Rattle.pac_flat.specs.declared.acceptance.AcceptFault.TheVariants.{Catalogue
 use Rattle.pac_script.specs.declared.script_fault.ScriptFault.{ScriptFault}
 use Rattle.pac_script.specs.declared.script_fault.ScriptFault.TheVariants.{Unaccepted, Line}
 use Rattle.pac_request.specs.LineKinds.{line_kind_name}
+use Rattle.pac_outside.specs.declared.devices.LogName.{LogName}
+use Rattle.pac_outside.specs.declared.devices.LogName.TheVariants as segment
 use Rattle.pac_store.specs.Made.{device_name}
 use Rattle.pac_store.specs.declared.device.DeviceName.{DeviceName}
-use Rattle.pac_store.specs.declared.device.DeviceName.TheVariants.{Log as TheLog, SlotA, SlotB}
+use Rattle.pac_store.specs.declared.device.DeviceName.TheVariants.{Log as TheLog, LogB as TheLogB, SlotA, SlotB}
 use Rattle.pac_store.specs.declared.errors.MakeError.{MakeError}
 use Rattle.pac_store.specs.declared.errors.MakeError.TheVariants as make
 use Rattle.pac_log.specs.Damages.{damage_name}
 use Rattle.pac_check.specs.Kinds.{slot_damage_name}
 use Rattle.pac_check.specs.declared.info.SlotName.{SlotName}
 use Rattle.pac_check.specs.declared.info.SlotName.TheVariants.{A, B}
-use Rattle.pac_recover.specs.declared.errors.Damage.{Damage}
-use Rattle.pac_recover.specs.declared.errors.Damage.TheVariants.{Log, Slot}
-use Rattle.pac_recover.specs.declared.errors.LoadError.{LoadError}
-use Rattle.pac_recover.specs.declared.errors.LoadError.TheVariants as load
-use Rattle.pac_recover.specs.declared.errors.RecoverError.{RecoverError}
-use Rattle.pac_recover.specs.declared.errors.RecoverError.TheVariants as recover
-use Rattle.pac_recover.specs.declared.limit.TooManyRows.{TooManyRows}
+use Rattle.pac_restore.specs.declared.errors.Damage.{Damage}
+use Rattle.pac_restore.specs.declared.errors.Damage.TheVariants.{Log, Slot}
+use Rattle.pac_restore.specs.declared.errors.LoadError.{LoadError}
+use Rattle.pac_restore.specs.declared.errors.LoadError.TheVariants as load
+use Rattle.pac_restore.specs.declared.errors.RecoverError.{RecoverError}
+use Rattle.pac_restore.specs.declared.errors.RecoverError.TheVariants as recover
+use Rattle.pac_restore.specs.declared.limit.TooManyRows.{TooManyRows}
 use Rattle.pac_run.specs.declared.stop.RunStop.{RunStop}
 use Rattle.pac_run.specs.declared.stop.RunStop.TheVariants as run
 use Rattle.pac_report.specs.Status.{abort_words, as_line, catalogue_words, damage_words, full_words, image_words, not_empty_words, operations_words, rows_words, script_words, too_large_words}
@@ -91,13 +93,18 @@ abbrev pub slot_device : SlotName → DeviceName
 slot_device A = SlotA
 slot_device B = SlotB
 
+-- the device of a segment of the log
+abbrev pub log_device : LogName → DeviceName
+log_device segment.Log = TheLog
+log_device segment.LogB = TheLogB
+
 -- the name of a damaged device, the offset of its first damage, and the kind
 abbrev pub damaged_at : DeviceName → ℕ → List ℕ → List ℕ
 damaged_at device at kind = as_line (damage_words (device_name device) at kind)
 
--- the same of damage in the log, or in a slot
+-- the same of damage in a segment of the log, or in a slot
 abbrev pub damaged_line : Damage → List ℕ
-damaged_line (Log at kind) = damaged_at TheLog at (damage_name kind)
+damaged_line (Log name at kind) = damaged_at (log_device name) at (damage_name kind)
 damaged_line (Slot slot at kind) = damaged_at (slot_device slot) at (slot_damage_name kind)
 
 -- how many bytes a log that is full would have

@@ -49,7 +49,7 @@ use std::thread::Threads;
 /// - `recover [--workers N] [--rows N]` reads the devices, executes the stored transactions after the newest slot over that
 ///   one's tables by N workers, from 1 to 64, or 4, and writes the tables where none has more rows than `--rows` says, or
 ///   1,000,000. What it writes doesn't depend on the workers. It reads no input, and no device is written or synced. It reads
-///   the log twice, and holds the batches of 4,194,304 bytes of it in memory.
+///   the active segment of the log once, and holds the batches of 4,194,304 bytes of it in memory.
 /// - `run [--batch N] [--rows N]` does what [`crate::run_command`] says.
 /// - `stress N [--workers W]` makes N transactions of the stress test, from 1 to 100,000, over the catalogue of a bank,
 ///   executes them from no rows on, in batches of 64, by W workers, from 1 to 64, or 4, and writes a summary: how many
@@ -58,20 +58,20 @@ use std::thread::Threads;
 ///
 /// | status | comes | the error sink takes |
 /// |---|---|---|
-/// | 0 | else: the output took the dump of a replay or a recovery, or the explanation, or the summary, or all replies of a run; or the store is there | nothing |
+/// | 0 | else: the output took the dump of a replay, a recovery or a `lay`, or the log of after-images, or the explanation, or the summary, or all replies of a run; or the store is there | nothing |
 /// | 1 | exactly where the arguments name no command, unless there was no memory to read them | `usage: pacman init, run, recover, explain, replay, stress or lay` |
-/// | 2 | only where the input is no script, or its catalogue is refused | its first fault: `catalogue AT KIND` where the catalogue's text isn't read, or isn't typed; `operations PROC COUNT` where its operations are too many: the first procedure at which they are, and how many; else, of `replay` alone, `script LINE AT KIND`: the first line that is refused, from 1 on, and its fault |
-/// | 3 | only where a device of a store that is to be made has a byte; the first of the log, slot a and slot b | `not empty DEVICE LENGTH` |
-/// | 3 | only where the log of a store that is to be recovered or run doesn't begin as one | `no store` |
-/// | 3 | or where it is damaged: its first damage, of the log, slot a and slot b, and then of the slots' offsets in the log | `damaged DEVICE AT KIND` |
+/// | 2 | only where the input is no script or no log of after-images, or its catalogue is refused | its first fault: `catalogue AT KIND` where the catalogue's text isn't read, or isn't typed; `operations PROC COUNT` where its operations are too many: the first procedure at which they are, and how many; else, of `replay` alone, `script LINE AT KIND`: the first line that is refused, from 1 on, and its fault; or, of `lay` alone, `image AT KIND`: the first fault of the lists, whose first byte is at 0 |
+/// | 3 | only where a device of a store that is to be made has a byte; the first of the two log devices, slot a and slot b | `not empty DEVICE LENGTH` |
+/// | 3 | only where the active segment of a store that is to be recovered or run doesn't begin as one | `no store` |
+/// | 3 | or where it is damaged: its first damage: of what slot a and slot b begin with, of the active segment, of the rest of the slots, and then of the newest slot's offset in the segment | `damaged DEVICE AT KIND` |
 /// | 4 | only where serial execution of the transactions of a replay, or of those that are stored, aborts | `abort TXN OP REASON` |
-/// | 5 | only where they end with a table that has more rows than the limit; the first | `rows TABLE ROWS LIMIT` |
+/// | 5 | only where they, or the lists of a log of after-images, end with a table that has more rows than the limit; the first | `rows TABLE ROWS LIMIT` |
 /// | 6 | only where the input's count of faults rose | `input fault` |
 /// | 7 | only where the output's count of faults rose; the output took a prefix of its text | `output fault` |
 /// | 8 | only where a device's count of faults rose | `disk fault` |
 /// | 9 | where an allocation was refused | `no memory` |
-/// | 10 | only where the log has no room for a group of a run, with which it would have that many bytes | `log full NEED` |
-/// | 11 | only where the input of a replay has more than 67,108,864 bytes, or more are read in a run before a line `stop` | `input too long` |
+/// | 10 | only where the log's segment has no room for a group of a run, with which it would have that many bytes | `log full NEED` |
+/// | 11 | only where the input of a replay or of `lay` has more than 67,108,864 bytes, or more are read in a run before a line `stop` | `input too long` |
 /// | 12 | only where a slot has no room for a checkpoint of a run, with which it would have that many bytes | `checkpoint too large BYTES` |
 ///
 /// A failing error sink changes no status. One worker of a replay, a recovery or a stress test passes the gate before each
@@ -88,7 +88,7 @@ pub fn pacman<RT: Threads + Wait + Sync, I: Source, O: Sink, E: Sink, D: Disk, G
 ) -> u8
     ensures status { IsOneOf result (0 ∷ 1 ∷ 2 ∷ 3 ∷ 4 ∷ 5 ∷ 6 ∷ 7 ∷ 8 ∷ 9 ∷ 10 ∷ 11 ∷ 12 ∷ []) }
 
-    // Each command ends so, by its status; where the arguments name none, it is 1.
+    // Each command ends so, by its status, but for `replay --images` and `lay`, which are tested; where the arguments name none, it is 1.
     ensures usage { result ≢ 9 → (result ≡ 1) ↔ ¬ NamesCommand arguments.now }
     ensures init { IsInit arguments.now → InitEnds result
         (observed I.left I.faults input.old input.new) (observed E.held E.faults errors.old errors.new) (observed_devices D.known D.faults devices.old devices.new) }

@@ -3,13 +3,14 @@ ghost use Rattle.std.specs.Prelude.{◌≡◌, ◌≤◌, length, IfOk};
 ghost use Rattle.std.specs.FinMap.{empty};
 ghost use Rattle.pac_types.specs.Execution.{serial};
 ghost use Rattle.pac_types.specs.OperationLimits.{HasFewOperations};
-ghost use Rattle.pac_recover.specs.Gates.{RunOn, txns_in};
+ghost use Rattle.pac_restore.specs.Batches.{RunOn, txns_in};
 ghost use Rattle.pac_script.specs.BatchFits.{BatchesFit, BatchesHaveNumbers};
 ghost use Rattle.pac_main.specs.Replay.{DoesEnd};
 
 use pac_ops::Batches;
 use pac_outside::Gate;
-use pac_recover::{Execution, execute_by};
+use pac_recover::execute_by;
+use pac_restore::Execution;
 use pac_serial::{AllError, no_rows};
 use pac_tables::HashedRows;
 use pac_types::Catalogue;

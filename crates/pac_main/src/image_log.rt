@@ -2,7 +2,6 @@
 ghost use Rattle.std.specs.Prelude.{◌≡◌, ◌≤◌, ◌+◌, IfOk, IfSome, IsErrOf, Ok, Err, length};
 ghost use Rattle.pac_base.specs.declared.refusal.Refusal.TheVariants as error;
 ghost use Rattle.pac_request.specs.Answers.{AnswersBy};
-ghost use Rattle.pac_types.specs.Accepted.{IsAccepted};
 ghost use Rattle.pac_script.specs.Script.{text_before};
 ghost use Rattle.pac_tuple.specs.declared.fault.ImageFault.{ImageFault as AnImageFault};
 ghost use Rattle.pac_tuple.specs.Laying.{AreLaidWithin};

@@ -52,14 +52,14 @@ fn init<I: Source, D: Disk>(
 
 /// Does what the argument `init` says, and answers the program's exit status: reads a catalogue's text from the input, to its
 /// end or to 65,537 bytes, and makes its store on the devices, which must be empty. With status 0 a crash leaves of the log
-/// the header with the text and a closed gate, and of each slot a closed gate.
+/// the header with the text and a closed gate, and of each slot a closed gate; the second log device isn't written.
 ///
 /// | status | comes | the error sink takes |
 /// |---|---|---|
 /// | 0 | else: the store is there | nothing |
 /// | 1 | exactly where the arguments are not `init`, unless there was no memory to read them | the usage |
 /// | 2 | only where the catalogue is refused: its first fault, or the first procedure at which operations are too many | `catalogue AT KIND` or `operations PROC COUNT` |
-/// | 3 | only where a device has a byte: the first of the log, slot a and slot b | `not empty DEVICE LENGTH` |
+/// | 3 | only where a device has a byte: the first of the two log devices, slot a and slot b | `not empty DEVICE LENGTH` |
 /// | 6 | only where the input's count of faults rose | `input fault` |
 /// | 8 | only where a device's count of faults rose; nothing is promised of the devices then | `disk fault` |
 /// | 9 | where an allocation was refused | `no memory` |

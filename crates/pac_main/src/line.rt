@@ -1,13 +1,14 @@
 // The line that reports a stop.
 ghost use Rattle.std.specs.Prelude.{◌≡◌, IsTrue};
 ghost use Rattle.pac_report.specs.Status.{fault_text, is_made};
-ghost use Rattle.pac_main.specs.Stop.{damaged_line, line_of, script_fault_line, slot_device, takes_memory, unaccepted_line};
+ghost use Rattle.pac_main.specs.Stop.{damaged_line, line_of, log_device, script_fault_line, slot_device, takes_memory, unaccepted_line};
 
 use crate::stop::Stop;
 use pac_check::SlotName;
 use pac_flat::AcceptFault;
-use pac_recover::Damage;
+use pac_outside::LogName;
 use pac_report::StatusLine;
+use pac_restore::Damage;
 use pac_script::ScriptFault;
 use pac_store::DeviceName;
 
@@ -53,14 +54,24 @@ fn slot_device(slot: SlotName) -> DeviceName
     }
 }
 
-// The line of damage in the log, or in a slot.
+// The device of a segment of the log.
+fn log_device(name: LogName) -> DeviceName
+    ensures { result ≡ log_device name }
+{
+    match name {
+        LogName::Log => DeviceName::Log,
+        LogName::LogB => DeviceName::LogB,
+    }
+}
+
+// The line of damage in a segment of the log, or in a slot.
 fn damage_status(damage: Damage) -> StatusLine<'static>
     ensures line { fault_text result ≡ damaged_line damage }
     ensures made { IsTrue (is_made result) }
 {
     match damage {
-        Damage::Log { at, kind } => StatusLine::Damaged {
-            device: DeviceName::Log.name(),
+        Damage::Log { name, at, kind } => StatusLine::Damaged {
+            device: log_device(name).name(),
             at,
             kind: kind.name(),
         },

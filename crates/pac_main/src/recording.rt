@@ -1,5 +1,5 @@
 // The command `replay --images`.
-ghost use Rattle.std.specs.Prelude.{◌≡◌, ◌≢◌, ◌≤◌, ◌<◌, ◌+◌, ◌^◌, ℕ, Option, None, IfOk, IfErr, IfSome, OnOk, IsErrOf, Ok, Err, [], length, slice_index_or};
+ghost use Rattle.std.specs.Prelude.{◌≡◌, ◌≢◌, ◌≤◌, ◌<◌, ◌+◌, ◌^◌, ℕ, Option, None, IfOk, IfErr, IfSome, OnOk, IsErrOf, Ok, Err, length};
 ghost use Rattle.std.specs.FinMap.{empty};
 ghost use Rattle.std.specs.List.{All, AllByRecursion};
 ghost use Rattle.pac_value.specs.Growth.{Grew};
@@ -12,7 +12,7 @@ ghost use Rattle.pac_types.specs.OperationLimits.{HasFewOperations};
 ghost use Rattle.pac_entry.specs.Entries.{ChangeHasBytes};
 ghost use Rattle.pac_script.specs.BatchFits.{BatchesFit, BatchesHaveNumbers};
 ghost use Rattle.pac_script.specs.Script.{MarkOf};
-ghost use Rattle.pac_recover.specs.Gates.{RunOn, txns_in};
+ghost use Rattle.pac_restore.specs.Batches.{RunOn, txns_in};
 ghost use Rattle.pac_tuple.specs.AfterImages.{all_after_images};
 ghost use Rattle.pac_tuple.specs.Images.{AreTxnImages};
 ghost use Rattle.pac_main.specs.Causes.{ReplayStops, ScriptStops};
@@ -30,7 +30,7 @@ use crate::stop::Stop;
 use pac_base::NoMemory;
 use pac_ops::Batch;
 use pac_outside::{Sink, Source, write_all};
-use pac_recover::test_rows;
+use pac_restore::test_rows;
 use pac_script::{Script, find_mark};
 use pac_serial::{AllError, no_rows};
 use pac_tables::HashedRows;

@@ -1,12 +1,12 @@
 // The command `replay`.
-ghost use Rattle.std.specs.Prelude.{◌≡◌, ◌≢◌, ◌≤◌, ◌+◌, None, IfOk, IfErr, IfSome, OnOk, OnErr, Ok, length};
+ghost use Rattle.std.specs.Prelude.{◌≡◌, ◌≢◌, ◌≤◌, ◌+◌, None, IfOk, IfErr, IfSome, OnOk, Ok, length};
 ghost use Rattle.pac_outside.specs.Content.{GaveAtMost};
 ghost use Rattle.pac_types.specs.OperationLimits.{HasFewOperations};
 ghost use Rattle.pac_script.specs.BatchFits.{BatchesFit, BatchesHaveNumbers};
 ghost use Rattle.pac_main.specs.Causes.{GivesNoScript, IsNoScript, IsUnread, ReplayStops, ScriptStops};
-ghost use Rattle.pac_recover.specs.Gates.{RunOn};
+ghost use Rattle.pac_restore.specs.Batches.{RunOn};
 ghost use Rattle.pac_run.specs.declared.limits.TheConstants.{MAX_INPUT};
-ghost use Rattle.pac_main.specs.Replay.{IsDumpOf, IsReadAs, IsScriptOf, IsLongScript, ReplayEnds, first_over_in, outcome};
+ghost use Rattle.pac_main.specs.Replay.{IsDumpOf, IsReadAs, IsScriptOf, ReplayEnds, first_over_in, outcome};
 ghost use Rattle.pac_main.specs.Stop.{line_of, status_of};
 ghost use Rattle.pac_main.specs.Streams.{IsTaken, IsReported, observed};
 ghost use Rattle.pac_main.specs.declared.stop.Stop.{Stop as AStop};
@@ -16,8 +16,8 @@ use crate::input::InputError;
 use crate::reporting::report;
 use crate::stop::Stop;
 use pac_outside::{Gate, Sink, Source, read_up_to, write_all};
-use pac_recover::test_rows;
 use pac_report::dump;
+use pac_restore::test_rows;
 use pac_run::MAX_INPUT;
 use pac_script::{Script, read_script};
 use pac_tables::HashedRows;

@@ -27,14 +27,14 @@ use std::alloc::Global;
 /// |---|---|---|
 /// | 0 | else: a line `stop` or the input's end was met, and all replies are written | nothing |
 /// | 1 | exactly where the arguments are not `run` with its options, unless there was no memory to read them | the usage |
-/// | 3 | only where the log doesn't begin as one, or the store is damaged: its first damage | `no store` or `damaged DEVICE AT KIND` |
+/// | 3 | only where the active segment of the log doesn't begin as one, or the store is damaged: its first damage | `no store` or `damaged DEVICE AT KIND` |
 /// | 4 | only where serial execution of the stored transactions aborts | `abort TXN OP REASON` |
 /// | 5 | only where they end with a table that has more rows than the limit; the first | `rows TABLE ROWS LIMIT` |
 /// | 6 | only where the input's count of faults rose; the open group is dropped | `input fault` |
 /// | 7 | only where the output's count of faults rose | `output fault` |
 /// | 8 | only where a device's count of faults rose | `disk fault` |
 /// | 9 | where an allocation was refused | `no memory` |
-/// | 10 | only where the log has no room for a group, with which it would have that many bytes | `log full NEED` |
+/// | 10 | only where the log's segment has no room for a group, with which it would have that many bytes | `log full NEED` |
 /// | 11 | only where more than 67,108,864 bytes are read before a line `stop`; the open group is dropped | `input too long` |
 /// | 12 | only where a slot has no room for a checkpoint, with which it would have that many bytes | `checkpoint too large BYTES` |
 ///

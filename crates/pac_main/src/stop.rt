@@ -8,7 +8,7 @@ use crate::input::InputError;
 use pac_base::{NoMemory, Refusal};
 use pac_ops::Note;
 use pac_outside::Failed;
-use pac_recover::{Damage, LoadError, RecoverError, TooManyRows};
+use pac_restore::{Damage, LoadError, RecoverError, TooManyRows};
 use pac_run::RunStop;
 use pac_script::ScriptFault;
 use pac_serial::AllError;

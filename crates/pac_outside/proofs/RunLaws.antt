@@ -6,7 +6,7 @@ use Rattle.pac_outside.specs.Disk.{DiskHistory, DiskState, HasImages, IsImage, b
 use Rattle.pac_outside.specs.declared.devices.Devices.{Devices}
 use Rattle.pac_outside.specs.Devices.{AreImages, AllLeave, RunLeaves, WhichDevice, device_at, with_device}
 use Rattle.pac_outside.specs.Devices.RunLeaves.{rests, steps}
-use Rattle.pac_outside.specs.Devices.WhichDevice.{the_log, the_slot_a, the_slot_b}
+use Rattle.pac_outside.specs.Devices.WhichDevice.{the_log, the_log_b, the_slot_a, the_slot_b}
 use Rattle.pac_outside.specs.Parts.{reads_of}
 use Rattle.pac_outside.specs.Runs.{AllGoOn, AllHaveImages, EachIsPassed, GoesOn, IsMoment, IsNotSeven, IsPassed, LeavesIn, OneGoesOn, disk_in, empty_disk, was_seven}
 use Rattle.pac_outside.proofs.Histories.{all_weaken, same_history}
@@ -27,11 +27,12 @@ on_and_on a b c first second = record {
 }
 
 all_stay : (devices : Devices DiskHistory) → AllGoOn devices devices
-all_stay devices = record { log = stays_on devices.log; slot_a = stays_on devices.slot_a; slot_b = stays_on devices.slot_b }
+all_stay devices = record { log = stays_on devices.log; log_b = stays_on devices.log_b; slot_a = stays_on devices.slot_a; slot_b = stays_on devices.slot_b }
 
 all_on : (a b c : Devices DiskHistory) → AllGoOn a b → AllGoOn b c → AllGoOn a c
 all_on a b c first second = record {
   log = on_and_on a.log b.log c.log first.log second.log;
+  log_b = on_and_on a.log_b b.log_b c.log_b first.log_b second.log_b;
   slot_a = on_and_on a.slot_a b.slot_a c.slot_a first.slot_a second.slot_a;
   slot_b = on_and_on a.slot_b b.slot_b c.slot_b first.slot_b second.slot_b;
 }
@@ -41,9 +42,10 @@ abbrev stepped : WhichDevice → DiskState → Devices DiskHistory → Devices D
 stepped which next devices = with_device which (becomes next (device_at which devices)) devices
 
 one_on : (which : WhichDevice) (devices : Devices DiskHistory) (next : DiskState) → AllGoOn devices (stepped which next devices)
-one_on the_log devices next = record { log = goes_one devices.log next; slot_a = stays_on devices.slot_a; slot_b = stays_on devices.slot_b }
-one_on the_slot_a devices next = record { log = stays_on devices.log; slot_a = goes_one devices.slot_a next; slot_b = stays_on devices.slot_b }
-one_on the_slot_b devices next = record { log = stays_on devices.log; slot_a = stays_on devices.slot_a; slot_b = goes_one devices.slot_b next }
+one_on the_log devices next = record { log = goes_one devices.log next; log_b = stays_on devices.log_b; slot_a = stays_on devices.slot_a; slot_b = stays_on devices.slot_b }
+one_on the_log_b devices next = record { log = stays_on devices.log; log_b = goes_one devices.log_b next; slot_a = stays_on devices.slot_a; slot_b = stays_on devices.slot_b }
+one_on the_slot_a devices next = record { log = stays_on devices.log; log_b = stays_on devices.log_b; slot_a = goes_one devices.slot_a next; slot_b = stays_on devices.slot_b }
+one_on the_slot_b devices next = record { log = stays_on devices.log; log_b = stays_on devices.log_b; slot_a = stays_on devices.slot_a; slot_b = goes_one devices.slot_b next }
 
 -- in a run no state is forgotten
 pub run_goes_on : (P : Devices (List ℕ) → Type 0) (old new : Devices DiskHistory) → RunLeaves P old new → AllGoOn old new
@@ -55,12 +57,19 @@ run_goes_on P old new (steps which devices end next here more) = all_on devices 
 -- a device is the one that steps, or stays as it is
 at_step : (which other : WhichDevice) (devices : Devices DiskHistory) (next : DiskState) → (device_at other (stepped which next devices) ≡ becomes next (device_at other devices)) ⊎ (device_at other (stepped which next devices) ≡ device_at other devices)
 at_step the_log the_log devices next = inl refl
+at_step the_log the_log_b devices next = inr refl
 at_step the_log the_slot_a devices next = inr refl
 at_step the_log the_slot_b devices next = inr refl
+at_step the_log_b the_log devices next = inr refl
+at_step the_log_b the_log_b devices next = inl refl
+at_step the_log_b the_slot_a devices next = inr refl
+at_step the_log_b the_slot_b devices next = inr refl
 at_step the_slot_a the_log devices next = inr refl
+at_step the_slot_a the_log_b devices next = inr refl
 at_step the_slot_a the_slot_a devices next = inl refl
 at_step the_slot_a the_slot_b devices next = inr refl
 at_step the_slot_b the_log devices next = inr refl
+at_step the_slot_b the_log_b devices next = inr refl
 at_step the_slot_b the_slot_a devices next = inr refl
 at_step the_slot_b the_slot_b devices next = inl refl
 
@@ -127,6 +136,7 @@ had_image disk new on has = at_seam (λ state. IsImage state state.seen) disk.pa
 had_images : (moment new : Devices DiskHistory) → AllGoOn moment new → AllHaveImages new → AreImages moment (reads_of moment)
 had_images moment new on has = record {
   log = had_image moment.log new.log on.log has.log;
+  log_b = had_image moment.log_b new.log_b on.log_b has.log_b;
   slot_a = had_image moment.slot_a new.slot_a on.slot_a has.slot_a;
   slot_b = had_image moment.slot_b new.slot_b on.slot_b has.slot_b;
 }
@@ -152,17 +162,33 @@ same_between a b first second =
 -- where one device went on alone, the others were at each moment as they are
 between : (which : WhichDevice) (devices moment : Devices DiskHistory) (new : DiskHistory) → AllGoOn devices moment → AllGoOn moment (with_device which new devices) → moment ≡ with_device which (device_at which moment) devices
 between the_log devices moment new begun ended =
-    let a : moment.slot_a ≡ devices.slot_a = same_between devices.slot_a moment.slot_a begun.slot_a ended.slot_a in
-    let b : moment.slot_b ≡ devices.slot_b = same_between devices.slot_b moment.slot_b begun.slot_b ended.slot_b in
-    ap (λ (disk : DiskHistory). with_device the_slot_a disk moment) a ∙ ap (λ (disk : DiskHistory). with_device the_slot_b disk (with_device the_log moment.log devices)) b
+    let log_b : moment.log_b ≡ devices.log_b = same_between devices.log_b moment.log_b begun.log_b ended.log_b in
+    let slot_a : moment.slot_a ≡ devices.slot_a = same_between devices.slot_a moment.slot_a begun.slot_a ended.slot_a in
+    let slot_b : moment.slot_b ≡ devices.slot_b = same_between devices.slot_b moment.slot_b begun.slot_b ended.slot_b in
+    ap (λ (disk : DiskHistory). with_device the_log_b disk moment) log_b
+    ∙ ap (λ (disk : DiskHistory). with_device the_slot_a disk (with_device the_log_b devices.log_b moment)) slot_a
+    ∙ ap (λ (disk : DiskHistory). with_device the_slot_b disk (with_device the_log moment.log devices)) slot_b
+between the_log_b devices moment new begun ended =
+    let log : moment.log ≡ devices.log = same_between devices.log moment.log begun.log ended.log in
+    let slot_a : moment.slot_a ≡ devices.slot_a = same_between devices.slot_a moment.slot_a begun.slot_a ended.slot_a in
+    let slot_b : moment.slot_b ≡ devices.slot_b = same_between devices.slot_b moment.slot_b begun.slot_b ended.slot_b in
+    ap (λ (disk : DiskHistory). with_device the_log disk moment) log
+    ∙ ap (λ (disk : DiskHistory). with_device the_slot_a disk (with_device the_log devices.log moment)) slot_a
+    ∙ ap (λ (disk : DiskHistory). with_device the_slot_b disk (with_device the_log_b moment.log_b devices)) slot_b
 between the_slot_a devices moment new begun ended =
-    let l : moment.log ≡ devices.log = same_between devices.log moment.log begun.log ended.log in
-    let b : moment.slot_b ≡ devices.slot_b = same_between devices.slot_b moment.slot_b begun.slot_b ended.slot_b in
-    ap (λ (disk : DiskHistory). with_device the_log disk moment) l ∙ ap (λ (disk : DiskHistory). with_device the_slot_b disk (with_device the_slot_a moment.slot_a devices)) b
+    let log : moment.log ≡ devices.log = same_between devices.log moment.log begun.log ended.log in
+    let log_b : moment.log_b ≡ devices.log_b = same_between devices.log_b moment.log_b begun.log_b ended.log_b in
+    let slot_b : moment.slot_b ≡ devices.slot_b = same_between devices.slot_b moment.slot_b begun.slot_b ended.slot_b in
+    ap (λ (disk : DiskHistory). with_device the_log disk moment) log
+    ∙ ap (λ (disk : DiskHistory). with_device the_log_b disk (with_device the_log devices.log moment)) log_b
+    ∙ ap (λ (disk : DiskHistory). with_device the_slot_b disk (with_device the_slot_a moment.slot_a devices)) slot_b
 between the_slot_b devices moment new begun ended =
-    let l : moment.log ≡ devices.log = same_between devices.log moment.log begun.log ended.log in
-    let a : moment.slot_a ≡ devices.slot_a = same_between devices.slot_a moment.slot_a begun.slot_a ended.slot_a in
-    ap (λ (disk : DiskHistory). with_device the_log disk moment) l ∙ ap (λ (disk : DiskHistory). with_device the_slot_a disk (with_device the_slot_b moment.slot_b devices)) a
+    let log : moment.log ≡ devices.log = same_between devices.log moment.log begun.log ended.log in
+    let log_b : moment.log_b ≡ devices.log_b = same_between devices.log_b moment.log_b begun.log_b ended.log_b in
+    let slot_a : moment.slot_a ≡ devices.slot_a = same_between devices.slot_a moment.slot_a begun.slot_a ended.slot_a in
+    ap (λ (disk : DiskHistory). with_device the_log disk moment) log
+    ∙ ap (λ (disk : DiskHistory). with_device the_log_b disk (with_device the_log devices.log moment)) log_b
+    ∙ ap (λ (disk : DiskHistory). with_device the_slot_a disk (with_device the_slot_b moment.slot_b devices)) slot_a
 
 -- what was left at such a moment
 left_at : (P : Devices (List ℕ) → Type 0) (which : WhichDevice) (devices : Devices DiskHistory) (new : DiskHistory) (state : DiskState) → IsPassed P devices (with_device which new devices) which state → LeavesIn P which devices state
@@ -187,15 +213,15 @@ alone_leaves P which devices new run =
 own_image : (bytes : List ℕ) → IsImage (settled bytes) bytes
 own_image bytes = record { no_shorter = omega arith; no_longer = omega arith; stays = λ offset below unwritten. refl }
 
-pub seven_is_seen : (old new : Devices DiskHistory) → old.log ≡ empty_disk → new.log ≡ was_seven → HasImages new.slot_a → HasImages new.slot_b → RunLeaves IsNotSeven old new → ⊥
-seven_is_seen old new was is has_a has_b run =
+pub seven_is_seen : (old new : Devices DiskHistory) → old.log ≡ empty_disk → new.log ≡ was_seven → HasImages new.log_b → HasImages new.slot_a → HasImages new.slot_b → RunLeaves IsNotSeven old new → ⊥
+seven_is_seen old new was is has_log_b has_a has_b run =
     let passed = each_is_passed IsNotSeven old new run the_log in
     let grown : states was_seven ≡ states empty_disk ++ passed.since = ap (λ (disk : DiskHistory). states disk) (sym is) ∙ passed.grown ∙ ap (λ (disk : DiskHistory). states disk ++ passed.since) was in
     let since : passed.since ≡ settled (7 ∷ []) ∷ settled [] ∷ [] = append_cancel_left (states empty_disk) passed.since (settled (7 ∷ []) ∷ settled [] ∷ []) (sym grown) in
     at_seven (subst (λ (later : List DiskState). AllByRecursion (IsPassed IsNotSeven old new the_log) (old.log.now ∷ later)) since passed.each).1.0
   where
     all_has : AllHaveImages new
-    all_has = record { log = subst (λ (disk : DiskHistory). HasImages disk) (sym is) (own_image [], (own_image (7 ∷ []), (own_image [], tt))); slot_a = has_a; slot_b = has_b }
+    all_has = record { log = subst (λ (disk : DiskHistory). HasImages disk) (sym is) (own_image [], (own_image (7 ∷ []), (own_image [], tt))); log_b = has_log_b; slot_a = has_a; slot_b = has_b }
 
     at_seven : IsPassed IsNotSeven old new the_log (settled (7 ∷ [])) → ⊥
     at_seven passed = moment_has IsNotSeven old new passed.moment all_has passed.is (ap (λ (state : DiskState). state.seen) passed.now)

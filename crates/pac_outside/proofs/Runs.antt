@@ -6,13 +6,13 @@ use Rattle.pac_outside.specs.Disk.{DiskHistory, DiskState, IsImage, Leaves, Leav
 use Rattle.pac_outside.specs.declared.devices.Devices.{Devices}
 use Rattle.pac_outside.specs.Devices.{AllLeave, RunLeaves, OnceKnown, IfAllKnown, WhichDevice, device_at, with_device}
 use Rattle.pac_outside.specs.Devices.RunLeaves.{rests, steps}
-use Rattle.pac_outside.specs.Devices.WhichDevice.{the_log, the_slot_a, the_slot_b}
+use Rattle.pac_outside.specs.Devices.WhichDevice.{the_log, the_log_b, the_slot_a, the_slot_b}
 use Rattle.pac_outside.specs.Runs.{LeavesIn, OneGoesOn, disk_in}
 use Rattle.pac_outside.proofs.Histories.{all_weaken, same_history}
 
--- three devices, or what is seen of them
-abbrev pub three : {D : Type 0} → D → D → D → Devices D
-three log a b = record { log = log; slot_a = a; slot_b = b }
+-- four devices, or what is seen of them
+abbrev pub four : {D : Type 0} → D → D → D → D → Devices D
+four log log_b a b = record { log = log; log_b = log_b; slot_a = a; slot_b = b }
 
 -- one run after another
 pub run_then : (P : Devices (List ℕ) → Type 0) (a b c : Devices DiskHistory) → RunLeaves P a b → RunLeaves P b c → RunLeaves P a c
@@ -38,29 +38,34 @@ weaken_run P Q weaker a b (steps which devices end next here more) =
 
 -- what a crash leaves depends on the state that each device is in, and on no state before
 leaves_now : (P : Devices (List ℕ) → Type 0) (which : WhichDevice) (devices : Devices DiskHistory) → LeavesIn P which devices (device_at which devices).now → AllLeave P devices
-leaves_now P the_log devices here = λ images are. here images (record { log = are.log; slot_a = are.slot_a; slot_b = are.slot_b })
-leaves_now P the_slot_a devices here = λ images are. here images (record { log = are.log; slot_a = are.slot_a; slot_b = are.slot_b })
-leaves_now P the_slot_b devices here = λ images are. here images (record { log = are.log; slot_a = are.slot_a; slot_b = are.slot_b })
+leaves_now P the_log devices here = λ images are. here images (record { log = are.log; log_b = are.log_b; slot_a = are.slot_a; slot_b = are.slot_b })
+leaves_now P the_log_b devices here = λ images are. here images (record { log = are.log; log_b = are.log_b; slot_a = are.slot_a; slot_b = are.slot_b })
+leaves_now P the_slot_a devices here = λ images are. here images (record { log = are.log; log_b = are.log_b; slot_a = are.slot_a; slot_b = are.slot_b })
+leaves_now P the_slot_b devices here = λ images are. here images (record { log = are.log; log_b = are.log_b; slot_a = are.slot_a; slot_b = are.slot_b })
 
 pub now_leaves : (P : Devices (List ℕ) → Type 0) (which : WhichDevice) (devices : Devices DiskHistory) → AllLeave P devices → LeavesIn P which devices (device_at which devices).now
-now_leaves P the_log devices here = λ images are. here images (record { log = are.log; slot_a = are.slot_a; slot_b = are.slot_b })
-now_leaves P the_slot_a devices here = λ images are. here images (record { log = are.log; slot_a = are.slot_a; slot_b = are.slot_b })
-now_leaves P the_slot_b devices here = λ images are. here images (record { log = are.log; slot_a = are.slot_a; slot_b = are.slot_b })
+now_leaves P the_log devices here = λ images are. here images (record { log = are.log; log_b = are.log_b; slot_a = are.slot_a; slot_b = are.slot_b })
+now_leaves P the_log_b devices here = λ images are. here images (record { log = are.log; log_b = are.log_b; slot_a = are.slot_a; slot_b = are.slot_b })
+now_leaves P the_slot_a devices here = λ images are. here images (record { log = are.log; log_b = are.log_b; slot_a = are.slot_a; slot_b = are.slot_b })
+now_leaves P the_slot_b devices here = λ images are. here images (record { log = are.log; log_b = are.log_b; slot_a = are.slot_a; slot_b = are.slot_b })
 
 -- a device that is put in its place stands there
 pub put_is : {D : Type 0} (which : WhichDevice) (device : D) (devices : Devices D) → device_at which (with_device which device devices) ≡ device
 put_is the_log device devices = refl
+put_is the_log_b device devices = refl
 put_is the_slot_a device devices = refl
 put_is the_slot_b device devices = refl
 
 -- of two that are put in a place one after another the last stands there
 pub put_again : {D : Type 0} (which : WhichDevice) (device other : D) (devices : Devices D) → with_device which device (with_device which other devices) ≡ with_device which device devices
 put_again the_log device other devices = refl
+put_again the_log_b device other devices = refl
 put_again the_slot_a device other devices = refl
 put_again the_slot_b device other devices = refl
 
 pub put_same : {D : Type 0} (which : WhichDevice) (devices : Devices D) → with_device which (device_at which devices) devices ≡ devices
 put_same the_log devices = refl
+put_same the_log_b devices = refl
 put_same the_slot_a devices = refl
 put_same the_slot_b devices = refl
 
@@ -90,20 +95,24 @@ among : (P : Devices (List ℕ) → Type 0) (which : WhichDevice) (devices : Dev
 among P which devices new Q has run = one_runs P which devices new
     (record { since = run.since; grown = run.grown; each = (has (device_at which devices).now run.first, all_weaken (Leaves Q) (LeavesIn P which devices) has run.since run.each) })
 
--- the log is called
-pub log_runs : (P : Devices (List ℕ) → Type 0) (l n a b : DiskHistory) → LeavesOnly (λ i. (x y : List ℕ) → IsImage a.now x → IsImage b.now y → P (three i x y)) l n → RunLeaves P (three l a b) (three n a b)
-log_runs P l n a b run = among P the_log (three l a b) n (λ i. (x y : List ℕ) → IsImage a.now x → IsImage b.now y → P (three i x y))
-    (λ state leaves images are. leaves images.log are.log images.slot_a images.slot_b are.slot_a are.slot_b) run
+-- the images of all devices but this one, which may be any
+abbrev pub OthersAre : WhichDevice → Devices DiskHistory → Devices (List ℕ) → Type 0
+OthersAre the_log devices images = IsImage devices.log_b.now images.log_b × IsImage devices.slot_a.now images.slot_a × IsImage devices.slot_b.now images.slot_b
+OthersAre the_log_b devices images = IsImage devices.log.now images.log × IsImage devices.slot_a.now images.slot_a × IsImage devices.slot_b.now images.slot_b
+OthersAre the_slot_a devices images = IsImage devices.log.now images.log × IsImage devices.log_b.now images.log_b × IsImage devices.slot_b.now images.slot_b
+OthersAre the_slot_b devices images = IsImage devices.log.now images.log × IsImage devices.log_b.now images.log_b × IsImage devices.slot_a.now images.slot_a
 
--- slot a is called
-pub a_runs : (P : Devices (List ℕ) → Type 0) (l a n b : DiskHistory) → LeavesOnly (λ x. (i y : List ℕ) → IsImage l.now i → IsImage b.now y → P (three i x y)) a n → RunLeaves P (three l a b) (three l n b)
-a_runs P l a n b run = among P the_slot_a (three l a b) n (λ x. (i y : List ℕ) → IsImage l.now i → IsImage b.now y → P (three i x y))
-    (λ state leaves images are. leaves images.slot_a are.slot_a images.log images.slot_b are.log are.slot_b) run
-
--- slot b is called
-pub b_runs : (P : Devices (List ℕ) → Type 0) (l a b n : DiskHistory) → LeavesOnly (λ y. (i x : List ℕ) → IsImage l.now i → IsImage a.now x → P (three i x y)) b n → RunLeaves P (three l a b) (three l a n)
-b_runs P l a b n run = among P the_slot_b (three l a b) n (λ y. (i x : List ℕ) → IsImage l.now i → IsImage a.now x → P (three i x y))
-    (λ state leaves images are. leaves images.slot_b are.slot_b images.log images.slot_a are.log are.slot_a) run
+-- this device is called
+pub device_runs : (P : Devices (List ℕ) → Type 0) (which : WhichDevice) (devices : Devices DiskHistory) (new : DiskHistory)
+    → LeavesOnly (λ image. (images : Devices (List ℕ)) → OthersAre which devices images → P (with_device which image images)) (device_at which devices) new → RunLeaves P devices (with_device which new devices)
+device_runs P the_log devices new run = among P the_log devices new (λ image. (images : Devices (List ℕ)) → OthersAre the_log devices images → P (with_device the_log image images))
+    (λ state leaves images are. leaves images.log are.log images (are.log_b, are.slot_a, are.slot_b)) run
+device_runs P the_log_b devices new run = among P the_log_b devices new (λ image. (images : Devices (List ℕ)) → OthersAre the_log_b devices images → P (with_device the_log_b image images))
+    (λ state leaves images are. leaves images.log_b are.log_b images (are.log, are.slot_a, are.slot_b)) run
+device_runs P the_slot_a devices new run = among P the_slot_a devices new (λ image. (images : Devices (List ℕ)) → OthersAre the_slot_a devices images → P (with_device the_slot_a image images))
+    (λ state leaves images are. leaves images.slot_a are.slot_a images (are.log, are.log_b, are.slot_b)) run
+device_runs P the_slot_b devices new run = among P the_slot_b devices new (λ image. (images : Devices (List ℕ)) → OthersAre the_slot_b devices images → P (with_device the_slot_b image images))
+    (λ state leaves images are. leaves images.slot_b are.slot_b images (are.log, are.log_b, are.slot_a)) run
 
 -- a sync of one device, also one that failed, leaves what it finds
 pub sync_runs : (P : Devices (List ℕ) → Type 0) (which : WhichDevice) (devices : Devices DiskHistory) (new : DiskHistory)
@@ -111,9 +120,10 @@ pub sync_runs : (P : Devices (List ℕ) → Type 0) (which : WhichDevice) (devic
 sync_runs P which devices new here run = among P which devices new (IsImage (device_at which devices).now) (found which) run
   where
     found : (which : WhichDevice) (state : DiskState) → Leaves (IsImage (device_at which devices).now) state → LeavesIn P which devices state
-    found the_log state leaves = λ images are. here images (record { log = leaves images.log are.log; slot_a = are.slot_a; slot_b = are.slot_b })
-    found the_slot_a state leaves = λ images are. here images (record { log = are.log; slot_a = leaves images.slot_a are.slot_a; slot_b = are.slot_b })
-    found the_slot_b state leaves = λ images are. here images (record { log = are.log; slot_a = are.slot_a; slot_b = leaves images.slot_b are.slot_b })
+    found the_log state leaves = λ images are. here images (record { log = leaves images.log are.log; log_b = are.log_b; slot_a = are.slot_a; slot_b = are.slot_b })
+    found the_log_b state leaves = λ images are. here images (record { log = are.log; log_b = leaves images.log_b are.log_b; slot_a = are.slot_a; slot_b = are.slot_b })
+    found the_slot_a state leaves = λ images are. here images (record { log = are.log; log_b = are.log_b; slot_a = leaves images.slot_a are.slot_a; slot_b = are.slot_b })
+    found the_slot_b state leaves = λ images are. here images (record { log = are.log; log_b = are.log_b; slot_a = are.slot_a; slot_b = leaves images.slot_b are.slot_b })
 
 -- ---- where all devices' histories are known
 
@@ -132,23 +142,34 @@ knows_then R S T step (Some a) (Some b) (Some c) first second = step a b c first
 -- One device is called while the others stand still: what its histories have leads to what those of all have.
 module _ (R : DiskHistory → DiskHistory → Type 0) (S : Devices DiskHistory → Devices DiskHistory → Type 0)
     (step : (which : WhichDevice) (devices : Devices DiskHistory) (new : DiskHistory) → R (device_at which devices) new → S devices (with_device which new devices)) where
-  pub log_knows : (l n a b : Option DiskHistory) → BothKnown R l n → IfAllKnown S (three l a b) (three n a b)
-  log_knows None n a b known = tt
-  log_knows (Some l) n None b known = tt
-  log_knows (Some l) n (Some a) None known = tt
-  log_knows (Some l) None (Some a) (Some b) known = absurd known
-  log_knows (Some l) (Some n) (Some a) (Some b) known = step the_log (three l a b) n known
+  pub log_knows : (l n m a b : Option DiskHistory) → BothKnown R l n → IfAllKnown S (four l m a b) (four n m a b)
+  log_knows None n m a b known = tt
+  log_knows (Some l) n None a b known = tt
+  log_knows (Some l) n (Some m) None b known = tt
+  log_knows (Some l) n (Some m) (Some a) None known = tt
+  log_knows (Some l) None (Some m) (Some a) (Some b) known = absurd known
+  log_knows (Some l) (Some n) (Some m) (Some a) (Some b) known = step the_log (four l m a b) n known
 
-  pub a_knows : (l a n b : Option DiskHistory) → BothKnown R a n → IfAllKnown S (three l a b) (three l n b)
-  a_knows None a n b known = tt
-  a_knows (Some l) None n b known = tt
-  a_knows (Some l) (Some a) n None known = tt
-  a_knows (Some l) (Some a) None (Some b) known = absurd known
-  a_knows (Some l) (Some a) (Some n) (Some b) known = step the_slot_a (three l a b) n known
+  pub log_b_knows : (l m n a b : Option DiskHistory) → BothKnown R m n → IfAllKnown S (four l m a b) (four l n a b)
+  log_b_knows None m n a b known = tt
+  log_b_knows (Some l) None n a b known = tt
+  log_b_knows (Some l) (Some m) n None b known = tt
+  log_b_knows (Some l) (Some m) n (Some a) None known = tt
+  log_b_knows (Some l) (Some m) None (Some a) (Some b) known = absurd known
+  log_b_knows (Some l) (Some m) (Some n) (Some a) (Some b) known = step the_log_b (four l m a b) n known
 
-  pub b_knows : (l a b n : Option DiskHistory) → BothKnown R b n → IfAllKnown S (three l a b) (three l a n)
-  b_knows None a b n known = tt
-  b_knows (Some l) None b n known = tt
-  b_knows (Some l) (Some a) None n known = tt
-  b_knows (Some l) (Some a) (Some b) None known = absurd known
-  b_knows (Some l) (Some a) (Some b) (Some n) known = step the_slot_b (three l a b) n known
+  pub a_knows : (l m a n b : Option DiskHistory) → BothKnown R a n → IfAllKnown S (four l m a b) (four l m n b)
+  a_knows None m a n b known = tt
+  a_knows (Some l) None a n b known = tt
+  a_knows (Some l) (Some m) None n b known = tt
+  a_knows (Some l) (Some m) (Some a) n None known = tt
+  a_knows (Some l) (Some m) (Some a) None (Some b) known = absurd known
+  a_knows (Some l) (Some m) (Some a) (Some n) (Some b) known = step the_slot_a (four l m a b) n known
+
+  pub b_knows : (l m a b n : Option DiskHistory) → BothKnown R b n → IfAllKnown S (four l m a b) (four l m a n)
+  b_knows None m a b n known = tt
+  b_knows (Some l) None a b n known = tt
+  b_knows (Some l) (Some m) None b n known = tt
+  b_knows (Some l) (Some m) (Some a) None n known = tt
+  b_knows (Some l) (Some m) (Some a) (Some b) None known = absurd known
+  b_knows (Some l) (Some m) (Some a) (Some b) (Some n) known = step the_slot_b (four l m a b) n known

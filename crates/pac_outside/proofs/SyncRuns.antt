@@ -5,7 +5,7 @@ use Rattle.pac_outside.specs.declared.devices.Devices.{Devices}
 use Rattle.pac_outside.specs.Devices.{AreImages, RunsAsBefore, IfAllKnown, WhichDevice, all_known, device_at, with_device}
 use Rattle.pac_outside.specs.Devices.RunLeaves.{rests}
 use Rattle.pac_outside.specs.Parts.{known_read, known_reads}
-use Rattle.pac_outside.proofs.Runs.{three, run_then, run_end, sync_runs, knows_on, knows_then, log_knows, a_knows, b_knows}
+use Rattle.pac_outside.proofs.Runs.{four, run_then, run_end, sync_runs, knows_on, knows_then, log_knows, log_b_knows, a_knows, b_knows}
 
 -- what was as before a call is as before after it
 abbrev StaysAsBefore : Devices DiskHistory → Devices DiskHistory → Type 0
@@ -22,22 +22,31 @@ both_stay a b c = knows_then StaysAsBefore StaysAsBefore StaysAsBefore (λ x y z
 started : (a b : Devices (Option DiskHistory)) → IfAllKnown StaysAsBefore a b → IfAllKnown RunsAsBefore a b
 started a b = knows_on StaysAsBefore RunsAsBefore (λ old new stays. stays old (rests old (λ images are. are))) (all_known a) (all_known b)
 
-one_stays : (l m a b : Option DiskHistory) → BothKnown LeavesAsBefore l m → IfAllKnown StaysAsBefore (three l a b) (three m a b)
-one_stays = log_knows LeavesAsBefore StaysAsBefore one_more
+module _ (l m k : Option DiskHistory) (first : BothKnown LeavesAsBefore l m) where
+  one_stays : (a b : Option DiskHistory) → IfAllKnown StaysAsBefore (four l k a b) (four m k a b)
+  one_stays a b = log_knows LeavesAsBefore StaysAsBefore one_more l m k a b first
 
-two_stay : (l m a c b : Option DiskHistory) → BothKnown LeavesAsBefore l m → BothKnown LeavesAsBefore a c → IfAllKnown StaysAsBefore (three l a b) (three m c b)
-two_stay l m a c b first second = both_stay (three l a b) (three m a b) (three m c b) (one_stays l m a b first) (a_knows LeavesAsBefore StaysAsBefore one_more m a c b second)
+  pub one_synced : (a b : Option DiskHistory) → IfAllKnown RunsAsBefore (four l k a b) (four m k a b)
+  one_synced a b = started (four l k a b) (four m k a b) (one_stays a b)
 
-pub one_synced : (l m a b : Option DiskHistory) → BothKnown LeavesAsBefore l m → IfAllKnown RunsAsBefore (three l a b) (three m a b)
-one_synced l m a b first = started (three l a b) (three m a b) (one_stays l m a b first)
+  module _ (n : Option DiskHistory) (second : BothKnown LeavesAsBefore k n) where
+    two_stay : (a b : Option DiskHistory) → IfAllKnown StaysAsBefore (four l k a b) (four m n a b)
+    two_stay a b = both_stay (four l k a b) (four m k a b) (four m n a b) (one_stays a b) (log_b_knows LeavesAsBefore StaysAsBefore one_more m k n a b second)
 
-pub two_synced : (l m a c b : Option DiskHistory) → BothKnown LeavesAsBefore l m → BothKnown LeavesAsBefore a c → IfAllKnown RunsAsBefore (three l a b) (three m c b)
-two_synced l m a c b first second = started (three l a b) (three m c b) (two_stay l m a c b first second)
+    pub two_synced : (a b : Option DiskHistory) → IfAllKnown RunsAsBefore (four l k a b) (four m n a b)
+    two_synced a b = started (four l k a b) (four m n a b) (two_stay a b)
 
-pub three_synced : (l m a c b d : Option DiskHistory) → BothKnown LeavesAsBefore l m → BothKnown LeavesAsBefore a c → BothKnown LeavesAsBefore b d → IfAllKnown RunsAsBefore (three l a b) (three m c d)
-three_synced l m a c b d first second third = started (three l a b) (three m c d) (both_stay (three l a b) (three m c b) (three m c d) (two_stay l m a c b first second) (b_knows LeavesAsBefore StaysAsBefore one_more m c b d third))
+    three_stay : (a c b : Option DiskHistory) → BothKnown LeavesAsBefore a c → IfAllKnown StaysAsBefore (four l k a b) (four m n c b)
+    three_stay a c b third = both_stay (four l k a b) (four m n a b) (four m n c b) (two_stay a b) (a_knows LeavesAsBefore StaysAsBefore one_more m n a c b third)
+
+    pub three_synced : (a c b : Option DiskHistory) → BothKnown LeavesAsBefore a c → IfAllKnown RunsAsBefore (four l k a b) (four m n c b)
+    three_synced a c b third = started (four l k a b) (four m n c b) (three_stay a c b third)
+
+    pub four_synced : (a c b d : Option DiskHistory) → BothKnown LeavesAsBefore a c → BothKnown LeavesAsBefore b d → IfAllKnown RunsAsBefore (four l k a b) (four m n c d)
+    four_synced a c b d third fourth = started (four l k a b) (four m n c d) (both_stay (four l k a b) (four m n c b) (four m n c d) (three_stay a c b third) (b_knows LeavesAsBefore StaysAsBefore one_more m n c b d fourth))
 
 -- what a read gives of each device stays
-pub three_reads : (l m a c b d : Option DiskHistory) → known_read m ≡ known_read l → known_read c ≡ known_read a → known_read d ≡ known_read b → known_reads (three m c d) ≡ known_reads (three l a b)
-three_reads l m a c b d first second third =
-    ap (λ (r : Option (List ℕ)). three r (known_read c) (known_read d)) first ∙ ap (λ (r : Option (List ℕ)). three (known_read l) r (known_read d)) second ∙ ap (λ (r : Option (List ℕ)). three (known_read l) (known_read a) r) third
+pub four_reads : (l m k n a c b d : Option DiskHistory) → known_read m ≡ known_read l → known_read n ≡ known_read k → known_read c ≡ known_read a → known_read d ≡ known_read b → known_reads (four m n c d) ≡ known_reads (four l k a b)
+four_reads l m k n a c b d first second third fourth =
+    ap (λ (r : Option (List ℕ)). four r (known_read n) (known_read c) (known_read d)) first ∙ ap (λ (r : Option (List ℕ)). four (known_read l) r (known_read c) (known_read d)) second
+    ∙ ap (λ (r : Option (List ℕ)). four (known_read l) (known_read k) r (known_read d)) third ∙ ap (λ (r : Option (List ℕ)). four (known_read l) (known_read k) (known_read a) r) fourth

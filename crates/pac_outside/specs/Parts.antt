@@ -1,8 +1,9 @@
 -- What is known of the log alone, of the slots, and of what a read gives.
 use Rattle.std.specs.Prelude.{ℕ, List, Option, option_map}
-use Rattle.pac_outside.specs.Devices.{each}
+use Rattle.pac_outside.specs.Devices.{each, log_at}
 use Rattle.pac_outside.specs.Disk.{DiskHistory, DiskState, IfKnown}
 use Rattle.pac_outside.specs.declared.devices.Devices.{Devices}
+use Rattle.pac_outside.specs.declared.devices.LogName.{LogName}
 
 -- what a read gives of each device
 abbrev pub reads_of : Devices DiskHistory → Devices (List ℕ)
@@ -20,6 +21,10 @@ known_reads devices = each known_read devices
 abbrev pub slots_of : {A : Type 0} → Devices A → A × A
 slots_of devices = (devices.slot_a, devices.slot_b)
 
--- the log is in a state that has P, where it is known
-abbrev pub OfLog : (DiskState → Type 0) → Devices (Option DiskHistory) → Type 0
-OfLog P devices = IfKnown (λ history. P history.now) devices.log
+-- both log devices of a store
+abbrev pub logs_of : {A : Type 0} → Devices A → A × A
+logs_of devices = (devices.log, devices.log_b)
+
+-- this log device is in a state that has P, where it is known
+abbrev pub OfLog : (DiskState → Type 0) → LogName → Devices (Option DiskHistory) → Type 0
+OfLog P name devices = IfKnown (λ history. P history.now) (log_at name devices)

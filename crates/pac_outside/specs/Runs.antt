@@ -17,6 +17,7 @@ AllGoOn old new = OnEach GoesOn old new
 -- what is read of a device is one of its images, in each of its states
 pub record AllHaveImages (devices : Devices DiskHistory) : Type 0 where
   pub log : HasImages devices.log
+  pub log_b : HasImages devices.log_b
   pub slot_a : HasImages devices.slot_a
   pub slot_b : HasImages devices.slot_b
 

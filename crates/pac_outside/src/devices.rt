@@ -24,10 +24,11 @@ impl LogName {
     }
 }
 
-/// The devices of a store: the log, and two slots for checkpoints.
+/// The devices of a store: two for the log's segments, and two slots for checkpoints.
 #[derive(Drop)]
 pub struct Devices<D> {
     pub log: D,
+    pub log_b: D,
     pub slot_a: D,
     pub slot_b: D,
 }
@@ -46,6 +47,7 @@ impl<D: Disk> Devices<D> {
     /// comes after it.
     pub fn sync(&mut self) -> Result<(), Failed>
         ensures log { OnOk result (D.known self.new.log ≡ option_map after_sync (D.known self.old.log)) }
+        ensures log_b { OnOk result (D.known self.new.log_b ≡ option_map after_sync (D.known self.old.log_b)) }
         ensures slot_a { OnOk result (D.known self.new.slot_a ≡ option_map after_sync (D.known self.old.slot_a)) }
         ensures slot_b { OnOk result (D.known self.new.slot_b ≡ option_map after_sync (D.known self.old.slot_b)) }
         ensures moments { IfAllKnown RunsAsBefore (each D.known self.old) (each D.known self.new) }
@@ -55,6 +57,7 @@ impl<D: Disk> Devices<D> {
         ensures once { EndsAtOneFault (each D.faults self.old) (each D.faults self.new) result }
     {
         self.log.sync()?;
+        self.log_b.sync()?;
         self.slot_a.sync()?;
         self.slot_b.sync()
     }

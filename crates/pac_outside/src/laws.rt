@@ -27,8 +27,8 @@ pub fn one_device_runs()
 {}
 
 /// A state between counts: a log was empty and is empty, and held the byte 7 in between, which isn't allowed. Then there is
-/// no run, whatever the slots do of which each state has an image.
+/// no run, whatever the other devices do of which each state has an image.
 pub fn a_state_between_counts()
     ensures { (old new : ADevices DiskHistory) → old.log ≡ empty_disk → new.log ≡ was_seven
-        → HasImages new.slot_a → HasImages new.slot_b → ¬ RunLeaves IsNotSeven old new }
+        → HasImages new.log_b → HasImages new.slot_a → HasImages new.slot_b → ¬ RunLeaves IsNotSeven old new }
 {}

@@ -4,15 +4,15 @@
 //! - [`Source`] gives bytes, [`Sink`] takes bytes. [`read_up_to`] reads a whole input, [`write_all`] writes a whole
 //!   text.
 //! - [`Disk`] is a device of bytes that survive a crash once they are synced; `specs/Disk.antt` says what a crash may
-//!   leave at each moment. [`Devices`] are the three of a store; [`Devices::sync`] syncs them. [`LogName`]
-//!   names the two on which segments of a log may stand.
+//!   leave at each moment. [`Devices`] are the four of a store; [`Devices::sync`] syncs them. [`LogName`]
+//!   names the two of them on which the segments of the log stand.
 //! - [`write_and_sync`] returns once a piece is synced. [`open_after`] writes a piece after a closed gate byte and
 //!   opens it: the argument that a crash leaves all of the piece or none stands there, once. [`read_piece`] and
 //!   [`read_more`] read.
 //! - [`MemSource`], [`MemSink`] and [`MemDisk`] are in memory and fail at chosen calls. [`MemDisk::image`] returns what
 //!   a crash may leave, by a [`Fill`].
 //! - [`Stream`] is an adapter over a reader or a writer of std, [`FileDisk`] over a file, [`NoDisk`] is no device: each
-//!   of its calls fails. [`store_devices`] are the three files of a store.
+//!   of its calls fails. [`store_devices`] are the four files of a store.
 //! - [`FileSystem`] is what a [`FileDisk`] asks of the system: the runtime is one, and a test puts another in its place.
 //! - [`Gate`] is passed by a worker before each piece of work; [`OpenGate`] never blocks. Both stand in `pac_ops`, since
 //!   workers know no device.

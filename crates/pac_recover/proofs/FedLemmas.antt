@@ -1,7 +1,8 @@
--- What a feed of a log gives: nothing at first, then batch after batch, and how it ends.
+-- What a feed of a log gives: batch after batch, and how it ends.
 use Rattle.std.proofs.Common.{◌≡◌, ◌≤◌, ◌+◌, ◌-◌, ◌∙◌, All, ℕ, Bool, false, true≢false, List, [], ◌∷◌, ◌++◌, length, map, Option, Some, None, is_some, Ok, Err, refl, sym, ap, subst, arith}
 use Rattle.std.specs.Prelude.{slice_get, IsSomeAnd, option_map}
 use Rattle.std.specs.List.{AllByRecursion}
+use Rattle.std.proofs.lemmas.List.{length-append}
 use Rattle.std.proofs.lemmas.List.Elements.{recursion_from_All}
 use Rattle.std.proofs.lemmas.Option.{slice_get-map}
 use Rattle.pac_value.specs.Values.{type_of}
@@ -12,25 +13,21 @@ use Rattle.pac_ops.specs.declared.transaction.Txn.{Txn}
 use Rattle.pac_ops.specs.declared.transaction.Txn.TheVariants.{Call as ACall, AdHoc}
 use Rattle.pac_ops.specs.Shapes.{TxnFitsTypes}
 use Rattle.pac_outside.specs.Causes.{one_more}
-use Rattle.pac_outside.specs.Disk.{DiskHistory, IfKnown}
+use Rattle.pac_outside.specs.Disk.{DiskHistory}
 use Rattle.pac_types.specs.declared.procedure.Proc.{Proc}
 use Rattle.pac_types.specs.Fits.{TxnFits, shape}
 use Rattle.pac_types.specs.Typing.{CatalogueState}
 use Rattle.pac_types.specs.WellFormed.{types}
 use Rattle.pac_flat.specs.FlatForm.{program_of}
-use Rattle.pac_log.specs.declared.header.HeaderForm.TheVariants.{First}
 use Rattle.pac_log.specs.declared.errors.LogError.{LogError}
 use Rattle.pac_log.specs.declared.errors.LogError.TheVariants as error
 use Rattle.pac_log.specs.declared.position.NextGate.{NextGate}
 use Rattle.pac_log.specs.Bodies.{body_bytes}
-use Rattle.pac_log.specs.Logs.{HoldsLog, header_with}
-use Rattle.pac_log.specs.Places.{IsAfter}
-use Rattle.pac_log.specs.Reading.{IsNextBatch, first_batch}
+use Rattle.pac_log.specs.Reading.{IsNextBatch}
+use Rattle.pac_restore.proofs.ReadLemmas.{ReportsNext, more-txns, on-damage, on-end, on-more, read-more}
 use Rattle.pac_recover.specs.declared.log_feed.FeedEnd.{FeedEnd}
 use Rattle.pac_recover.specs.declared.log_feed.FeedEnd.TheVariants.{Window, End, Refused}
-use Rattle.pac_recover.specs.FedLogs.{AreBodiesCounted, AreCounted, EndsAs, FillsAs, IsGivenOfLog, IsPartOf, bodies_len}
-use Rattle.pac_recover.specs.Gates.{txns_by_batch}
-use Rattle.pac_recover.proofs.WindowLemmas.{Fills, ReportsAgain, fills-more, fills-whole, holds-mid, none-first, ok-same, window-more}
+use Rattle.pac_recover.specs.FedLogs.{AreBodiesCounted, AreCounted, EndsAs, FillsAs, IsGivenOfLog, bodies_len}
 
 -- ---- transactions that fit a catalogue fit the types of its programs and tables
 
@@ -56,68 +53,41 @@ module _ (cat : CatalogueState) where
       each [] all = tt
       each (t ∷ ts) all = (fits-types t all.0, each ts all.1)
 
--- ---- what is known of the disk
-
--- part of a log that this disk holds was given
-abbrev HasPart : NextGate → List Batch → NextGate → List ℕ → List (List Txn) → List (List Txn) → DiskHistory → Type 0
-HasPart from given gate text before after h = HoldsLog (header_with First text) from.catalogue (before ++ after) h.now.seen → IsAfter (header_with First text) before from → (rest : List (List Txn)) × IsPartOf text before after rest given gate
-
--- nothing is left of it
-abbrev HasAll : NextGate → List Batch → NextGate → List ℕ → List (List Txn) → List (List Txn) → DiskHistory → Type 0
-HasAll from given gate text before after h = HoldsLog (header_with First text) from.catalogue (before ++ after) h.now.seen → IsAfter (header_with First text) before from → IsPartOf text before after [] given gate
-
-module _ (from mid : NextGate) (given : List Batch) (text : List ℕ) (before after : List (List Txn)) where
-  filling : (known : Option DiskHistory) → IfKnown (HasPart from given mid text before after) known → IfKnown (Fills text from.catalogue before after from mid given) known
-  filling None is = tt
-  filling (Some h) is = λ holds there. let p = is holds there in record { rest = p.0; split = p.1.split; there = p.1.there }
-
-  filled : (known : Option DiskHistory) → IfKnown (Fills text from.catalogue before after from mid given) known → IfKnown (HasPart from given mid text before after) known
-  filled None is = tt
-  filled (Some h) is = λ holds there. let f = is holds there in (f.rest, record { split = f.split; there = f.there })
-
-  filled-all : (known : Option DiskHistory) → mid.catalogue ≡ from.catalogue → IfKnown (Fills text from.catalogue before after from mid given) known → ReportsAgain mid (Ok None) known → IfKnown (HasAll from given mid text before after) known
-  filled-all None same fills again = tt
-  filled-all (Some h) same fills again = λ holds there.
-      let f = fills holds there in
-      let says = again (header_with First text) (before ++ txns_by_batch given) f.rest (holds-mid text from.catalogue before after from mid mid given same h holds f) f.there in
-      record { split = f.split ∙ ap (λ (l : List (List Txn)). txns_by_batch given ++ l) (none-first f.rest (ok-same (first_batch f.rest) None says)); there = f.there }
-
 -- ---- it goes on
 
 module _ (known now next : Option DiskHistory) (from mid new : NextGate) (given : List Batch) (first : Option FeedEnd) (is : IsGivenOfLog known now from mid given first None) (same : next ≡ now) where
   still : next ≡ known
   still = same ∙ is.same
 
-  so-far : (text : List ℕ) (before after : List (List Txn)) → IfKnown (Fills text from.catalogue before after from mid given) known
-  so-far text before after = filling from mid given text before after known (is.part text before after)
-
   -- one batch more
-  pub gives-more : (batch : Batch) → IsNextBatch mid new batch → All (TxnFits mid.catalogue) batch.txns → ReportsAgain mid (Ok (Some batch)) now → IsGivenOfLog known next from new (given ++ batch ∷ []) first None
-  gives-more batch after fits again = record {
+  pub gives-more : (batch : Batch) → IsNextBatch mid new batch → All (TxnFits mid.catalogue) batch.txns → ReportsNext mid new (Ok (Some batch)) now → IsGivenOfLog known next from new (given ++ batch ∷ []) first None
+  gives-more batch after fits knows = record {
     same = still;
-    read = window-more from mid new given (given ++ batch ∷ []) batch refl is.read after fits;
-    part = λ text front back. filled from new (given ++ batch ∷ []) text front back known
-        (fills-more text from.catalogue front back from mid new given is.read.catalogue batch (given ++ batch ∷ []) known refl after (so-far text front back) (subst (ReportsAgain mid (Ok (Some batch))) is.same again));
+    read = read-more from mid new given batch is.read after fits;
+    grows = omega (arith, is.grows, more-txns mid new batch after, length-append given (batch ∷ []));
+    further = λ header before. on-more header before from mid new given batch known (is.further header before) (subst (ReportsNext mid new (Ok (Some batch))) is.same knows);
     ends = λ none. tt;
   }
 
   -- it stands where it stood
-  stays : new ≡ mid → (end : FeedEnd) → EndsAs known from mid given (Some end) → IsGivenOfLog known next from new given first (Some end)
-  stays there end ends = subst (λ (g : NextGate). IsGivenOfLog known next from g given first (Some end)) (sym there) (record { same = still; read = is.read; part = is.part; ends = λ none. ends })
+  stays : new ≡ mid → (end : FeedEnd) → EndsAs known from new given (Some end) → IsGivenOfLog known next from new given first (Some end)
+  stays there end ends =
+      let here : IsGivenOfLog known next from new given first None = subst (λ (g : NextGate). IsGivenOfLog known next from g given first None) (sym there) (record { same = still; read = is.read; grows = is.grows; further = is.further; ends = is.ends }) in
+      record { same = still; read = here.read; grows = here.grows; further = here.further; ends = λ none. ends }
 
   -- the log ends
-  pub ends-all : new ≡ mid → ReportsAgain mid (Ok None) now → IsGivenOfLog known next from new given first (Some End)
-  ends-all there again = stays there End (λ text before after. filled-all from mid given text before after known is.read.catalogue (so-far text before after) (subst (ReportsAgain mid (Ok None)) is.same again))
+  pub ends-all : new ≡ mid → ReportsNext mid new (Ok None) now → IsGivenOfLog known next from new given first (Some End)
+  ends-all there knows = stays there End (λ header before. on-end header before from mid new given known is.read.catalogue there (is.further header before) (subst (ReportsNext mid new (Ok None)) is.same knows))
 
   -- a batch isn't read
-  pub ends-refused : new ≡ mid → (cause : LogError) → (cause ≡ error.NoStore → ⊥) → ReportsAgain mid (Err cause) now → IsGivenOfLog known next from new given first (Some (Refused cause))
-  ends-refused there cause known-log again = stays there (Refused cause) (go cause known-log (subst (ReportsAgain mid (Err cause)) is.same again))
+  pub ends-refused : new ≡ mid → (cause : LogError) → (cause ≡ error.NoStore → ⊥) → ReportsNext mid new (Err cause) now → IsGivenOfLog known next from new given first (Some (Refused cause))
+  ends-refused there cause known-log knows = stays there (Refused cause) (go cause known-log (subst (ReportsNext mid new (Err cause)) is.same knows))
     where
-      go : (cause : LogError) → (cause ≡ error.NoStore → ⊥) → ReportsAgain mid (Err cause) known → EndsAs known from mid given (Some (Refused cause))
-      go error.NoStore never again = never refl
-      go (error.Damaged at kind) never again = λ text before after. fills-whole text from.catalogue before after from mid mid given is.read.catalogue at kind known (so-far text before after) again
-      go error.DiskFault never again = tt
-      go error.NoMemory never again = tt
+      go : (cause : LogError) → (cause ≡ error.NoStore → ⊥) → ReportsNext mid new (Err cause) known → EndsAs known from new given (Some (Refused cause))
+      go error.NoStore never knows = never refl
+      go (error.Damaged at kind) never knows = λ header before. on-damage header before from mid new given at kind known is.read.catalogue (is.further header before) knows
+      go error.DiskFault never knows = tt
+      go error.NoMemory never knows = tt
 
 -- ---- the bodies that were given
 

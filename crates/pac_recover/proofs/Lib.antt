@@ -1,20 +1,5 @@
-pub mod CauseLemmas
-pub mod OverLemmas
-pub mod GateLemmas
-pub mod ReadLemmas
-pub mod RefusalLemmas
-pub mod FirstLogLemmas
-pub mod SlotLemmas
-pub mod TablesLemmas
-pub mod LoadLemmas
-pub mod StandsLemmas
-pub mod BatchLemmas
 pub mod WorkerLemmas
-pub mod ReplayLemmas
-pub mod EndLemmas
-pub mod PassLemmas
-pub mod ScanLemmas
-pub mod WindowLemmas
-pub mod RereadLemmas
-pub mod FedLemmas
-pub mod WindowEnds
+mod FedLemmas
+mod WindowEnds
+mod RestLemmas
+pub mod StandsLemmas

@@ -28,9 +28,9 @@ use Rattle.pac_flat.specs.FlatForm.{program_of}
 use Rattle.pac_plan.specs.declared.parts.PlanParts.{PlanParts}
 use Rattle.pac_commute.specs.PartialFits.{TxnIsOfPlan, TxnsFitPlan}
 use Rattle.pac_commute.specs.PlanLaws.{NumbersRunOn, txns_of}
-use Rattle.pac_recover.specs.Gates.{txns_in, RunOn}
-use Rattle.pac_recover.specs.Logs.{FitBatches}
-use Rattle.pac_recover.specs.Outcomes.{FitsReplayed, executed_to, outcome_of}
+use Rattle.pac_restore.specs.Batches.{txns_in, FitBatches, RunOn}
+use Rattle.pac_restore.specs.Outcomes.{FitsReplayed, outcome_of}
+use Rattle.pac_recover.specs.Outcomes.{executed_to}
 
 -- the transactions of batches, and numbers that run on, as the plan's laws say it
 pub same-txns : (batches : List Batch) → txns_in batches ≡ txns_of batches

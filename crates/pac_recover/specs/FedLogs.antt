@@ -4,34 +4,41 @@ use Rattle.pac_ops.specs.declared.batch.Batch.{Batch}
 use Rattle.pac_ops.specs.declared.transaction.Txn.{Txn}
 use Rattle.pac_outside.specs.Causes.{one_more}
 use Rattle.pac_outside.specs.Disk.{DiskHistory, IfKnown}
-use Rattle.pac_log.specs.declared.header.HeaderForm.TheVariants.{First}
+use Rattle.pac_log.specs.declared.damage.DamageKind.{DamageKind}
+use Rattle.pac_log.specs.declared.header.Header.{Header}
 use Rattle.pac_log.specs.declared.errors.LogError.{LogError}
 use Rattle.pac_log.specs.declared.errors.LogError.TheVariants as error
 use Rattle.pac_log.specs.declared.position.NextGate.{NextGate}
 use Rattle.pac_log.specs.Bodies.{body_bytes}
-use Rattle.pac_log.specs.Logs.{HoldsLog, header_with}
-use Rattle.pac_log.specs.Places.{IsAfter}
+use Rattle.pac_log.specs.Reading.{StandsAfter}
 use Rattle.pac_recover.specs.declared.log_feed.FeedEnd.{FeedEnd}
 use Rattle.pac_recover.specs.declared.log_feed.FeedEnd.TheVariants.{Window, End, Refused}
-use Rattle.pac_recover.specs.Gates.{txns_by_batch}
-use Rattle.pac_recover.specs.Rereading.{IsWindow}
+use Rattle.pac_restore.specs.Batches.{txns_by_batch}
+use Rattle.pac_restore.specs.Reads.{AreRead, HoldsTo, IsDamagedAfter, ReadsFurther}
 
--- after these batches of a log come those that were given, up to the gate, and then the rest
-pub record IsPartOf (text : List ℕ) (before after rest : List (List Txn)) (given : List Batch) (gate : NextGate) : Type 0 where
-  pub split : after ≡ txns_by_batch given ++ rest
-  pub there : IsAfter (header_with First text) (before ++ txns_by_batch given) gate
+-- what is known of a disk is said of it after whatever batches of a log stand there before the gate
+abbrev pub AfterAny : Option DiskHistory → (Header → List (List Txn) → List ℕ → Type 0) → Type 0
+AfterAny known What = (header : Header) (before : List (List Txn)) → IfKnown (λ h. What header before h.now.seen) known
 
--- this holds of what a disk is known to hold, where that is a log and the gate comes after its batches before
-abbrev pub OfKnownLog : Option DiskHistory → NextGate → (List ℕ → List (List Txn) → List (List Txn) → Type 0) → Type 0
-OfKnownLog known old What = (text : List ℕ) (before after : List (List Txn)) → IfKnown (λ h. HoldsLog (header_with First text) old.catalogue (before ++ after) h.now.seen → IsAfter (header_with First text) before old → What text before after) known
+-- these batches stand there up to the next gate
+abbrev pub AreFurther : Option DiskHistory → NextGate → NextGate → List Batch → Type 0
+AreFurther known old new given = AfterAny known (λ header before image. ReadsFurther header before old new given image)
 
--- how it ended: nothing comes after the last batch, or the disk holds no whole log
+-- and no more
+abbrev pub AreLast : Option DiskHistory → NextGate → NextGate → List Batch → Type 0
+AreLast known old new given = AfterAny known (λ header before image. StandsAfter header before old image → HoldsTo header old.catalogue (before ++ txns_by_batch given) new image)
+
+-- there is this first damage
+abbrev pub IsDamagedThere : Option DiskHistory → NextGate → ℕ → DamageKind → Type 0
+IsDamagedThere known old at kind = AfterAny known (λ header before image. StandsAfter header before old image → IsDamagedAfter header old.catalogue at kind image)
+
+-- how it ended: nothing comes after the last batch, or this is the first damage
 abbrev pub EndsAs : Option DiskHistory → NextGate → NextGate → List Batch → Option FeedEnd → Type 0
 EndsAs known old new given None = Unit {0}
 EndsAs known old new given (Some Window) = Unit {0}
-EndsAs known old new given (Some End) = OfKnownLog known old (λ text before after. IsPartOf text before after [] given new)
+EndsAs known old new given (Some End) = AreLast known old new given
 EndsAs known old new given (Some (Refused error.NoStore)) = ⊥
-EndsAs known old new given (Some (Refused (error.Damaged at kind))) = OfKnownLog known old (λ text before after. ⊥)
+EndsAs known old new given (Some (Refused (error.Damaged at kind))) = IsDamagedThere known old at kind
 EndsAs known old new given (Some (Refused error.DiskFault)) = Unit {0}
 EndsAs known old new given (Some (Refused error.NoMemory)) = Unit {0}
 
@@ -77,10 +84,11 @@ refusal_of (Some Window) = None
 refusal_of (Some End) = None
 refusal_of (Some (Refused cause)) = Some cause
 
--- Between these gates these batches were given, and what is known of the disk is as before. If more could be given at first, this is how
--- it ended, where it did.
+-- Between these gates these batches were given, each with a transaction, and what is known of the disk is as before. If more could be
+-- given at first, this is how it ended, where it did.
 pub record IsGivenOfLog (known now : Option DiskHistory) (old new : NextGate) (given : List Batch) (first end : Option FeedEnd) : Type 0 where
   pub same : now ≡ known
-  pub read : IsWindow old new given
-  pub part : OfKnownLog known old (λ text before after. (rest : List (List Txn)) × IsPartOf text before after rest given new)
+  pub read : AreRead old new given
+  pub grows : old.txns + length given ≤ new.txns
+  pub further : AreFurther known old new given
   pub ends : first ≡ None → EndsAs known old new given end

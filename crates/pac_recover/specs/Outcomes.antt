@@ -1,32 +1,11 @@
--- What the execution of stored transactions gives.
-use Rattle.std.specs.Prelude.{ℕ, List, Option, Some, None, Result, Ok, Err}
-use Rattle.pac_value.specs.Expressions.{◌>>=◌}
-use Rattle.pac_value.specs.State.{Tables}
+-- What workers leave of stored transactions.
+use Rattle.std.specs.Prelude.{Option, Some, None}
 use Rattle.pac_tables.specs.Joined.{Held}
 use Rattle.pac_ops.specs.declared.note.Note.{Note}
-use Rattle.pac_ops.specs.declared.transaction.Txn.{Txn}
-use Rattle.pac_types.specs.declared.procedure.Proc.{Proc}
-use Rattle.pac_types.specs.Execution.{serial}
-use Rattle.pac_types.specs.Fits.{FitsCatalogue}
-use Rattle.pac_types.specs.Typing.{CatalogueState}
-use Rattle.pac_recover.specs.declared.execution.Execution.{Execution}
-use Rattle.pac_recover.specs.declared.execution.Execution.TheVariants as replayed
-
--- the tables with which it ends, or the abort that stops it
-abbrev pub outcome_of : {T : Type 0} → Execution T → Result Tables Note
-outcome_of (replayed.Tables held) = Ok held.rows
-outcome_of (replayed.Aborted note) = Err note
+use Rattle.pac_restore.specs.declared.execution.Execution.{Execution}
+use Rattle.pac_restore.specs.declared.execution.Execution.TheVariants as replayed
 
 -- what is executed: the tables, or the first transaction that aborts
 abbrev pub executed_to : {T : Type 0} → Held → Option Note → Execution T
 executed_to held None = replayed.Tables held
 executed_to held (Some note) = replayed.Aborted note
-
--- the same once these transactions are executed too, unless one before them aborts
-abbrev pub then_serial : List Proc → ℕ → List Txn → Result Tables Note → Result Tables Note
-then_serial procs first txns outcome = outcome >>= λ tables. serial procs first txns tables
-
--- its tables fit the catalogue
-abbrev pub FitsReplayed : {T : Type 0} → CatalogueState → Execution T → Type 0
-FitsReplayed catalogue (replayed.Tables held) = FitsCatalogue catalogue held.tables held.rows
-FitsReplayed catalogue (replayed.Aborted note) = Unit {0}

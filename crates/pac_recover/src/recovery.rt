@@ -7,13 +7,12 @@ ghost use Rattle.pac_types.specs.Fits.{FitsCatalogue};
 ghost use Rattle.pac_types.specs.Typing.{CatalogueState};
 ghost use Rattle.pac_store.specs.Images.{IfImagesKnown};
 ghost use Rattle.pac_store.specs.Stands.{StandsFor};
-ghost use Rattle.pac_recover.specs.Recovering.{IsRecoveredFrom, Recovers};
-ghost use Rattle.pac_recover.specs.Refusals.{AreRefused};
+ghost use Rattle.pac_restore.specs.Restoring.{AreRefused, IsRecoveredFrom};
+ghost use Rattle.pac_recover.specs.Recovering.{Recovers};
 
-use crate::execution::tables_of;
-use crate::rereading::replay_scanned;
-use crate::{LoadError, RecoverError, Scanned, scan, test_rows};
+use crate::segment::execute_active;
 use pac_outside::{Devices, Disk, Gate};
+use pac_restore::{LoadError, Opened, RecoverError, open_store, tables_of, test_rows};
 use pac_tables::HashedRows;
 use pac_types::Catalogue;
 use std::alloc::Global;
@@ -32,16 +31,16 @@ pub struct Recovered {
     pub txns: u64,
 }
 
-/// Recovers the tables of a store, on devices that are only read: scans it, executes the transactions of the log after the newest
-/// slot over that one's tables, by `workers` workers, and then tests the limit of rows. One worker passes the gate
+/// Recovers the tables of a store, on devices that are only read: opens it, executes the transactions of the active segment after the
+/// newest slot over that one's tables, by `workers` workers, and then tests the limit of rows. One worker passes the gate
 /// before each piece that it runs, several before each piece that is handed out to one of them.
 ///
-/// The log is read twice. In the second reading the batches of 4,194,304 bytes are held in memory at a time, and what executes
-/// them while they are read.
+/// The segment is read once. The batches of 4,194,304 bytes are held in memory at a time, and what executes them while they are read.
 ///
 /// # Errors
 ///
-/// - [`RecoverError::Load`] with those of [`load`](crate::load), in its order; with `NoMemory` also where there was none for the tables.
+/// - [`RecoverError::Load`] with those of [`load`](pac_restore::load), in its order; with `NoMemory` also where there was none for the
+///   tables.
 /// - [`RecoverError::AbortInLog`] where serial execution of the stored transactions stops, with the transaction that aborts.
 /// - [`RecoverError::RowsOver`] where the tables then have more rows than the limit: the first such table.
 ///
@@ -98,28 +97,22 @@ pub fn recover_by_windows<D: Disk, H: Threads + Wait + Sync, G: Gate + Sync>(
     ensures disk_fault { IsErrOf result (RecoverError.Load LoadError.DiskFault) → OneFaulted (each D.faults devices.old) (each D.faults devices.new) }
     ensures quiet { ¬ IsErrOf result (RecoverError.Load LoadError.DiskFault) → each D.faults devices.new ≡ each D.faults devices.old }
 {
-    let Scanned {
+    let Opened {
         catalogue,
-        plan,
-        tables,
-        txns: _,
-        total,
-        mut reader,
         slots,
-    } = scan(alloc, devices)?;
-    let newest = slots.newest();
-    let log = &mut devices.log;
-    let executed = replay_scanned(
+        tables,
+        mut reader,
+    } = open_store(alloc, devices)?;
+    let executed = execute_active(
         rt,
         alloc,
         workers,
         window,
         &catalogue,
-        &plan,
-        newest,
+        &slots,
         tables,
         &mut reader,
-        log,
+        devices,
         gate,
     )?;
     let tables = tables_of(executed)?;
@@ -127,6 +120,6 @@ pub fn recover_by_windows<D: Disk, H: Threads + Wait + Sync, G: Gate + Sync>(
     Ok(Recovered {
         catalogue,
         tables,
-        txns: total,
+        txns: reader.gate().txns(),
     })
 }

@@ -1,25 +1,23 @@
 // Executes a window of a log while it is read.
-ghost use Rattle.std.specs.Prelude.{◌≡◌, ◌≤◌, ℕ, IfOk, IsErrOf, map};
+ghost use Rattle.std.specs.Prelude.{◌≡◌, ◌≤◌, IfErr, IfOk, IsErrOf, map};
 ghost use Rattle.pac_outside.specs.Causes.{one_more};
 ghost use Rattle.pac_types.specs.Fits.{FitsCatalogue, shape};
 ghost use Rattle.pac_flat.specs.Agreement.{ReplaysTheSame};
 ghost use Rattle.pac_flat.specs.FlatForm.{program_of};
-ghost use Rattle.pac_log.specs.declared.damage.DamageKind.{DamageKind as ALogDamage};
-ghost use Rattle.pac_check.specs.declared.damage.SlotDamageKind.{SlotDamageKind as ASlotDamage};
-ghost use Rattle.pac_check.specs.declared.info.SlotName.{SlotName as ASlotName};
-ghost use Rattle.pac_recover.specs.declared.errors.Damage.TheVariants.{Log as InLog, Slot as InSlot};
-ghost use Rattle.pac_recover.specs.FedLogs.{OfKnownLog};
-ghost use Rattle.pac_recover.specs.Outcomes.{FitsReplayed};
+ghost use Rattle.pac_restore.specs.Opening.{IsInLog};
+ghost use Rattle.pac_restore.specs.Outcomes.{FitsReplayed};
+ghost use Rattle.pac_recover.specs.FedLogs.{IsDamagedThere};
 ghost use Rattle.pac_recover.specs.Windows.{IsExecutedWindow};
 
+use crate::LogFeed;
 use crate::workers::execution_of;
-use crate::{Execution, LoadError, LogFeed};
 use pac_base::Exact;
 use pac_in_order::execute_feed;
 use pac_keys::PlanCode;
 use pac_log::LogReader;
-use pac_outside::{Disk, Gate};
+use pac_outside::{Disk, Gate, LogName};
 use pac_plan::Shared;
+use pac_restore::{Execution, LoadError, in_log};
 use pac_tables::{JoinedRows, TableRows};
 use pac_types::Catalogue;
 use pac_workers::GhostList;
@@ -35,8 +33,8 @@ pub(crate) struct ExecutedWindow<T: TableRows> {
     pub is_last: bool,
 }
 
-/// Executes a window of a log from the reader's gate on over tables, by `workers` workers, while this thread reads it. A window
-/// has bodies of `bytes` bytes, and at most one batch more, or ends where the log ends.
+/// Executes a window of the log on this device from the reader's gate on over tables, by `workers` workers, while this thread reads
+/// it. A window has bodies of `bytes` bytes, and at most one batch more, or ends where the log ends.
 ///
 /// # Errors
 ///
@@ -55,6 +53,7 @@ pub(crate) fn execute_window<
     _cat: &Catalogue,
     plan: &Shared<PlanCode>,
     tables: JoinedRows<T>,
+    name: LogName,
     reader: &mut LogReader,
     disk: &mut D,
     gate: &G,
@@ -68,9 +67,7 @@ pub(crate) fn execute_window<
     requires fits { FitsCatalogue _cat.now tables.tables tables.rows }
     ensures fits { IfOk result (λ window. FitsReplayed _cat.now window.executed) }
     ensures window { IfOk result (λ window. IsExecutedWindow (D.known disk.old) _cat.now.procs reader.old.gate reader.new.gate tables.rows window.executed window.is_last) }
-    ensures log_damage { (at : ℕ) (kind : ALogDamage) → IsErrOf result (LoadError.Damaged (InLog at kind)) → OfKnownLog (D.known disk.old) reader.old.gate (λ text before after. ⊥) }
-    ensures slot_damage { (slot : ASlotName) (at : ℕ) (kind : ASlotDamage) → ¬ IsErrOf result (LoadError.Damaged (InSlot slot at kind)) }
-    ensures no_store { ¬ IsErrOf result LoadError.NoStore }
+    ensures refused { IfErr result (IsInLog name (IsDamagedThere (D.known disk.old) reader.old.gate)) }
     ensures same { D.known disk.new ≡ D.known disk.old }
     ensures counted { IsErrOf result LoadError.DiskFault → D.faults disk.new ≡ one_more (D.faults disk.old) }
     ensures kept { ¬ IsErrOf result LoadError.DiskFault → D.faults disk.new ≡ D.faults disk.old }
@@ -81,7 +78,7 @@ pub(crate) fn execute_window<
     let mut feed = LogFeed::new(reader, disk, &mut so_far, bytes);
     let executed = execute_feed(rt, alloc, workers, plan, first, tables, &mut feed, gate);
     if let Some(cause) = feed.refusal() {
-        return Err(LoadError::from(cause));
+        return Err(in_log(name, cause));
     }
     Ok(ExecutedWindow {
         executed: execution_of(executed?),

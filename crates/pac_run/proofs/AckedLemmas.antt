@@ -9,6 +9,7 @@ use Rattle.pac_tokens.specs.Tokens.{is_name}
 use Rattle.pac_lines.specs.Lines.{HasNoFeed, has_feed, lines_of, with_first_byte}
 use Rattle.pac_types.specs.declared.table.Table.{Table}
 use Rattle.pac_types.specs.Typing.{CatalogueState}
+use Rattle.pac_log.specs.declared.limits.TheConstants.{MAX_BASE}
 use Rattle.pac_request.specs.declared.request.Reply.{Reply}
 use Rattle.pac_request.specs.declared.request.Reply.TheVariants.{Committed, Aborted, AbortedFull, Shown, Refused, Saved}
 use Rattle.pac_request.specs.declared.fault.LineFaultKind.{LineFaultKind}
@@ -140,16 +141,16 @@ kept-knows catalogue names engine (Shown table key row) plain kept number few sa
 kept-knows catalogue names engine (Refused fault) plain kept number few same = let h : 99 ≡ 114 = heads _ _ _ _ same in omega (arith, h)
 kept-knows catalogue names engine (Saved txns) plain kept number few same = let h : 99 ≡ 115 = heads _ _ _ _ same in omega (arith, h)
 
-kept-saved : (catalogue : CatalogueState) → AreNamed catalogue.tables → (engine : EngineParts) (r : Reply) → IsPlain r → IsKept engine r → ReportsOnly (codes "saved ") (λ n. n < saved_of engine) (reply_words catalogue r)
+kept-saved : (catalogue : CatalogueState) → AreNamed catalogue.tables → (engine : EngineParts) (r : Reply) → IsPlain r → IsKept engine r → ReportsOnly (codes "saved ") (λ n. n ≤ MAX_BASE → n < saved_of engine) (reply_words catalogue r)
 kept-saved catalogue names engine (Saved txns) plain kept number few same =
     let is = same-number (codes "saved ") number txns few plain same in
-    let k : txns < saved_of engine = kept in
-    omega (arith, is, k)
-kept-saved catalogue names engine (Aborted op reason) plain kept number few same = let h : 115 ≡ 97 = heads _ _ _ _ same in omega (arith, h)
-kept-saved catalogue names engine (AbortedFull table) plain kept number few same = let h : 115 ≡ 97 = heads _ _ _ _ same in omega (arith, h)
+    let k : txns ≤ MAX_BASE → txns < saved_of engine = kept in
+    λ small. omega (arith, is, k (omega (arith, is, small)))
+kept-saved catalogue names engine (Aborted op reason) plain kept number few same = let h : 115 ≡ 97 = heads _ _ _ _ same in absurd (omega (arith, h))
+kept-saved catalogue names engine (AbortedFull table) plain kept number few same = let h : 115 ≡ 97 = heads _ _ _ _ same in absurd (omega (arith, h))
 kept-saved catalogue names engine (Shown table key row) plain kept number few same = absurd (shown-other (codes "saved") (table_name catalogue table) ((key_text key ++ 93 ∷ []) ++ shown_row row) number refl (name-at catalogue.tables table names) (same ∙ shown-split (table_name catalogue table) (key_text key) (shown_row row)))
-kept-saved catalogue names engine (Refused fault) plain kept number few same = let h : 115 ≡ 114 = heads _ _ _ _ same in omega (arith, h)
-kept-saved catalogue names engine (Committed txn) plain kept number few same = let h : 115 ≡ 99 = heads _ _ _ _ same in omega (arith, h)
+kept-saved catalogue names engine (Refused fault) plain kept number few same = let h : 115 ≡ 114 = heads _ _ _ _ same in absurd (omega (arith, h))
+kept-saved catalogue names engine (Committed txn) plain kept number few same = let h : 115 ≡ 99 = heads _ _ _ _ same in absurd (omega (arith, h))
 
 -- ---- a reply is one line
 
@@ -206,5 +207,5 @@ module _ (catalogue : CatalogueState) (names : AreNamed catalogue.tables) (engin
   pub acknowledged : (number : ℕ) → Acknowledges output number → number ≤ durable_of engine
   acknowledged = knows (codes "committed ") (λ n. n ≤ durable_of engine) (each-of IsPlain (IsKept engine) (λ r. ReportsOnly (codes "committed ") (λ n. n ≤ durable_of engine) (reply_words catalogue r)) (λ r p k. kept-knows catalogue names engine r p k) replies plain kept)
 
-  pub known-saved : (number : ℕ) → ReportsSaved output number → number < saved_of engine
-  known-saved = knows (codes "saved ") (λ n. n < saved_of engine) (each-of IsPlain (IsKept engine) (λ r. ReportsOnly (codes "saved ") (λ n. n < saved_of engine) (reply_words catalogue r)) (λ r p k. kept-saved catalogue names engine r p k) replies plain kept)
+  pub known-saved : (number : ℕ) → ReportsSaved output number → number ≤ MAX_BASE → number < saved_of engine
+  known-saved = knows (codes "saved ") (λ n. n ≤ MAX_BASE → n < saved_of engine) (each-of IsPlain (IsKept engine) (λ r. ReportsOnly (codes "saved ") (λ n. n ≤ MAX_BASE → n < saved_of engine) (reply_words catalogue r)) (λ r p k. kept-saved catalogue names engine r p k) replies plain kept)

@@ -1,34 +1,43 @@
 -- One request is answered, or not.
-use Rattle.std.proofs.Common.{◌≡◌, ◌∙◌, inl, inr, ℕ, ◌≤◌, List, [], ◌∷◌, ◌++◌, take, Option, Result, Ok, Err, refl, sym, ap, ap₂, subst, arith}
+use Rattle.std.proofs.Common.{◌≡◌, ◌∙◌, inl, inr, ℕ, ◌≤◌, true, List, [], ◌∷◌, ◌++◌, take, Option, Some, None, Result, Ok, Err, refl, sym, ap, ap₂, subst, arith}
 use Rattle.std.specs.Prelude.{IsErrOf, OnErr}
 use Rattle.std.specs.List.{AllByRecursion}
 use Rattle.std.proofs.lemmas.List.{append-nil}
 use Rattle.pac_ops.specs.declared.transaction.Txn.{Txn}
 use Rattle.pac_outside.specs.Devices.{all_known, each}
 use Rattle.pac_outside.specs.declared.devices.Devices.{Devices}
-use Rattle.pac_outside.specs.Disk.{DiskHistory}
+use Rattle.pac_outside.specs.Disk.{DiskHistory, IfKnown}
+use Rattle.pac_outside.specs.GateByte.{OneImage}
+use Rattle.pac_outside.proofs.KnownDevices.{rest-known}
 use Rattle.pac_outside.specs.Parts.{slots_of}
 use Rattle.pac_types.specs.Typing.{CatalogueState}
+use Rattle.pac_check.specs.declared.info.SlotInfo.{SlotInfo}
+use Rattle.pac_check.specs.declared.info.SlotName.{SlotName}
+use Rattle.pac_check.specs.declared.info.SlotName.TheVariants.{A, B}
 use Rattle.pac_check.specs.declared.limits.TheConstants.{MAX_SLOT_LEN}
+use Rattle.pac_check.specs.declared.state.SlotState.{SlotState}
+use Rattle.pac_check.specs.declared.state.SlotState.TheVariants.{Empty, Closed, Open}
+use Rattle.pac_check.specs.SlotStates.{active_of, by_slot, info_of, info_with, newest_of, spare_beside, spare_of, IsSlot}
+use Rattle.pac_check.proofs.FrontLemmas.{front_of_slot}
+use Rattle.pac_check.proofs.NewestLemmas.{of_a, of_b}
 use Rattle.pac_request.specs.declared.request.Request.{Request}
 use Rattle.pac_request.specs.declared.request.Request.TheVariants as request
 use Rattle.pac_request.specs.declared.request.Reply.{Reply}
 use Rattle.pac_session.specs.Session.{Rules, SessionState, commits, committed, ends}
-use Rattle.pac_session.specs.Groups.{GroupCut, all_requests, cut_on, cut_one, place_after_group}
+use Rattle.pac_session.specs.Groups.{GroupCut, all_requests, LogSpot, cut_on, cut_one, saves_anew}
 use Rattle.pac_session.specs.Open.{IsInGroup, rules_of, state_now}
 use Rattle.pac_engine.specs.declared.fault.EngineCause.{EngineCause}
 use Rattle.pac_engine.specs.declared.fault.EngineCause.TheVariants as cause
 use Rattle.pac_engine.specs.declared.parts.EngineParts.{EngineParts}
 use Rattle.pac_engine.specs.Closing.{Closes, IsKept, MayEndAfter, slot_len}
 use Rattle.pac_engine.specs.Handled.{StopsForRoom}
-use Rattle.pac_engine.specs.Standing.{HasDevices, OnlyGrows, StandsOn, durable_of}
-use Rattle.pac_engine.proofs.DeviceLemmas.{rest-known}
+use Rattle.pac_engine.specs.Standing.{HasDevices, OnlyGrows, StandsOn, durable_of, saved_of, spot_of}
 use Rattle.pac_engine.proofs.LawLemmas.{closes-then}
 use Rattle.pac_run.specs.declared.stop.RunStop.{RunStop}
-use Rattle.pac_run.specs.declared.stop.RunStop.TheVariants.{DiskFault, LogFull, NoMemory, OutputFault}
+use Rattle.pac_run.specs.declared.stop.RunStop.TheVariants.{DiskFault, LogFull, NoMemory, OutputFault, TooLarge}
 use Rattle.pac_run.specs.Causes.{stop_of_engine}
 use Rattle.pac_run.specs.Serving.{Answered, Broke, KeepsEach, KeepsGate, StandsForEach, WasHandled}
-use Rattle.pac_run.specs.Stopping.{HasWorked, StepStops}
+use Rattle.pac_run.specs.Stopping.{BeginsWith, HasWorked, NewestStays, StepStops}
 use Rattle.pac_run.specs.Texts.{IsTextPrefix, IsPlain, SaysUnlessFault, texts}
 use Rattle.pac_run.proofs.ServeLemmas.{took-nothing, whole-prefix}
 use Rattle.pac_run.proofs.StepLemmas.{nothing-keeps}
@@ -70,7 +79,7 @@ module _ {D : Type 0} (known : D → Option DiskHistory) (asked : Request) (befo
   -- the engine knows what the devices hold
   pub room-worked : (why : EngineCause) → StopsForRoom known asked why before now old new → HasWorked {A = Unit {0}} (Err (stop_of_engine why)) → HasDevices known now new
   room-worked (cause.LogFull need) is worked = absurd worked
-  room-worked (cause.TooLarge bytes) is worked = is.4
+  room-worked (cause.TooLarge bytes) is worked = absurd worked
   room-worked cause.DiskFault is worked = absurd worked
   room-worked cause.NoMemory is worked = absurd worked
   room-worked cause.Ended is worked = absurd worked
@@ -82,17 +91,47 @@ module _ {D : Type 0} (known : D → Option DiskHistory) (asked : Request) (befo
   room-full cause.NoMemory is need same = absurd cc
   room-full cause.Ended is need same = absurd cc
 
+  pub room-large : (why : EngineCause) → StopsForRoom known asked why before now old new → (bytes : ℕ) → stop_of_engine why ≡ TooLarge bytes → HasDevices known now new
+  room-large (cause.LogFull need) is bytes same = is.2
+  room-large (cause.TooLarge more) is bytes same = is.4
+  room-large cause.DiskFault is bytes same = absurd cc
+  room-large cause.NoMemory is bytes same = absurd cc
+  room-large cause.Ended is bytes same = absurd cc
+
+-- ---- the newest slot, which isn't called
+
+module _ {D : Type 0} (known : D → Option DiskHistory) (engine : EngineParts) (old new : Devices D) (ready : HasDevices known engine old)
+    (same : by_slot (spare_of engine.slots) (known new.slot_b) (known new.slot_a) ≡ by_slot (spare_of engine.slots) (known old.slot_b) (known old.slot_a)) where
+  begins-with : (slot : SlotName) (state : SlotState) (device : Option DiskHistory) (info : SlotInfo) → info_of slot state ≡ Some info → IfKnown (λ h. OneImage (IsSlot engine.session.catalogue.tables state) h.now) device → IfKnown (λ h. OneImage (BeginsWith info) h.now) device
+  begins-with slot state None info is one = tt
+  begins-with slot Empty (Some h) info is one = absurd cc
+  begins-with slot Closed (Some h) info is one = absurd cc
+  begins-with slot (Open head) (Some h) info is one =
+      let found : info_with slot head ≡ info = cc in
+      record { one = one.one; has = record { head = head; front = front_of_slot engine.session.catalogue.tables (Open head) h.now.seen one.has; is = subst (λ (i : SlotInfo). i ≡ info_with i.slot head) found refl } }
+
+  pub newest-stays : NewestStays (newest_of engine.slots) (each known new)
+  newest-stays = go (newest_of engine.slots) refl same
+    where
+      go : (newest : Option SlotInfo) → newest_of engine.slots ≡ newest → by_slot (spare_beside newest) (known new.slot_b) (known new.slot_a) ≡ by_slot (spare_beside newest) (known old.slot_b) (known old.slot_a) → NewestStays newest (each known new)
+      go None is rest = tt
+      go (Some info) is rest = at info.slot refl rest
+        where
+          at : (slot : SlotName) → info.slot ≡ slot → by_slot (by_slot slot B A) (known new.slot_b) (known new.slot_a) ≡ by_slot (by_slot slot B A) (known old.slot_b) (known old.slot_a) → IfKnown (λ h. OneImage (BeginsWith info) h.now) (by_slot slot (known new.slot_a) (known new.slot_b))
+          at A here stays = subst (λ (d : Option DiskHistory). IfKnown (λ h. OneImage (BeginsWith info) h.now) d) (sym stays) (begins-with A engine.slots.a (known old.slot_a) info (of_a engine.slots.a engine.slots.b info is here) ready.slot_a)
+          at B here stays = subst (λ (d : Option DiskHistory). IfKnown (λ h. OneImage (BeginsWith info) h.now) d) (sym stays) (begins-with B engine.slots.b (known old.slot_b) info (of_b engine.slots.a engine.slots.b info is here) ready.slot_b)
+
 module _ (asked : Request) (old new : EngineParts) where
   -- the groups that it closes are those of the step
-  handled-closes : (more : List Reply) → ((start : SessionState) (group : List Request) → IsInGroup start group old.session → Closes (rules_of old.session) old.log.gate.place start (cut_one (rules_of old.session) start group asked) more new)
-      → (rules : Rules) (place : ℕ) (start : SessionState) (whole : GroupCut) (given : List Reply) → Closes rules place start whole given old → Closes rules place start (cut_on rules start whole asked) (given ++ more) new
-  handled-closes more closes rules place start whole given is =
+  handled-closes : (more : List Reply) → ((start : SessionState) (group : List Request) → IsInGroup start group old.session → Closes (rules_of old.session) (spot_of old) start (cut_one (rules_of old.session) start group asked) more new)
+      → (rules : Rules) (spot : LogSpot) (start : SessionState) (whole : GroupCut) (given : List Reply) → Closes rules spot start whole given old → Closes rules spot start (cut_on rules start whole asked) (given ++ more) new
+  handled-closes more closes rules spot start whole given is =
       let middle = ends rules start (all_requests whole.closed) in
-      closes-then rules place start whole given old is (cut_one rules middle whole.rest asked) more new
-      (subst (λ (r : Rules). Closes r old.log.gate.place middle (cut_one r middle whole.rest asked) more new) is.same (closes middle whole.rest is.within))
+      closes-then rules spot start whole given old is (cut_one rules middle whole.rest asked) more new
+      (subst (λ (r : Rules). Closes r (spot_of old) middle (cut_one r middle whole.rest asked) more new) is.same (closes middle whole.rest is.within))
 
-  pub was-handled : (more : List Reply) → ((start : SessionState) (group : List Request) → IsInGroup start group old.session → Closes (rules_of old.session) old.log.gate.place start (cut_one (rules_of old.session) start group asked) more new)
-      → (asked ≡ request.Save → slot_len (rules_of old.session) (state_now old.session) (place_after_group old.log.gate.place old.session.txns) ≤ MAX_SLOT_LEN)
+  pub was-handled : (more : List Reply) → ((start : SessionState) (group : List Request) → IsInGroup start group old.session → Closes (rules_of old.session) (spot_of old) start (cut_one (rules_of old.session) start group asked) more new)
+      → (asked ≡ request.Save → saves_anew (saved_of old) (state_now old.session).number ≡ true → slot_len (rules_of old.session) (state_now old.session) ≤ MAX_SLOT_LEN)
       → durable_of new ≡ new.session.before → WasHandled asked more old new
   was-handled more closes small durable = record { closes = handled-closes more closes; saves = small; durable = durable }
 
@@ -105,15 +144,15 @@ module _ (asked : Request) (old new : EngineParts) (known known' : Devices (Opti
 
   -- nothing was written, since there was no memory for the text
   pub no-text : (catalogue : CatalogueState) (held : Option (List ℕ)) (faulted : Type 0) (stop : RunStop) → stop ≡ NoMemory → KeepsEach (commits (rules_of old.session) (state_now old.session) asked) old new known known' → OnlyGrows old new
-      → ((asked ≡ request.Save → ⊥) → slots_of known' ≡ slots_of known) → Broke catalogue asked old new held held known known' faulted stop
-  no-text catalogue held faulted stop is keeps grows slots = record {
+      → ((asked ≡ request.Save → ⊥) → slots_of known' ≡ slots_of known) → NewestStays (newest_of old.slots) known' → Broke catalogue asked old new held held known known' faulted stop
+  no-text catalogue held faulted stop is keeps grows slots newest = record {
     more = [];
     out = [];
     took = took-nothing held;
     prefix = record { count = 0; is = refl };
     whole = inl refl;
-    stops = λ start group within. subst (λ (s : RunStop). StepStops (rules_of old.session) old.log.gate.place start (cut_one (rules_of old.session) start group asked).closed [] s) (sym is)
-        (none-known (rules_of old.session) old.log.gate.place start (cut_one (rules_of old.session) start group asked).closed);
+    stops = λ start group within. subst (λ (s : RunStop). StepStops (rules_of old.session) (spot_of old) start (cut_one (rules_of old.session) start group asked).closed [] s) (sym is)
+        (none-known (rules_of old.session) (spot_of old) start (cut_one (rules_of old.session) start group asked).closed);
     keeps = keeps-one keeps;
     grows = grows;
     kept = tt;
@@ -121,6 +160,7 @@ module _ (asked : Request) (old new : EngineParts) (known known' : Devices (Opti
     handled = λ out. absurd (no-output (sym is ∙ out));
     room = subst (λ (s : RunStop). KeepsGate asked old new s) (sym is) tt;
     slots = slots;
+    newest = newest;
     torn = λ disk. absurd (no-disk (sym is ∙ disk));
   }
     where
@@ -132,11 +172,11 @@ module _ (asked : Request) (old new : EngineParts) (known known' : Devices (Opti
 
   pub broke-of : (catalogue : CatalogueState) (held held' : Option (List ℕ)) (faulted : Type 0) (stop : RunStop) (more : List Reply) (text : List ℕ) → text ≡ texts catalogue more → SaysUnlessFault held text held' faulted
       → KeepsEach (commits (rules_of old.session) (state_now old.session) asked) old new known known' → OnlyGrows old new → AllByRecursion (IsKept new) more → AllByRecursion IsPlain more
-      → ((start : SessionState) (group : List Request) → IsInGroup start group old.session → StepStops (rules_of old.session) old.log.gate.place start (cut_one (rules_of old.session) start group asked).closed more stop)
-      → (stop ≡ OutputFault → WasHandled asked more old new) → KeepsGate asked old new stop → ((asked ≡ request.Save → ⊥) → slots_of known' ≡ slots_of known)
-      → (stop ≡ DiskFault → (start : SessionState) (group : List Request) → IsInGroup start group old.session → MayEndAfter (rules_of old.session) start (cut_one (rules_of old.session) start group asked).closed old.log.gate known')
+      → ((start : SessionState) (group : List Request) → IsInGroup start group old.session → StepStops (rules_of old.session) (spot_of old) start (cut_one (rules_of old.session) start group asked).closed more stop)
+      → (stop ≡ OutputFault → WasHandled asked more old new) → KeepsGate asked old new stop → ((asked ≡ request.Save → ⊥) → slots_of known' ≡ slots_of known) → NewestStays (newest_of old.slots) known'
+      → (stop ≡ DiskFault → (start : SessionState) (group : List Request) → IsInGroup start group old.session → MayEndAfter (active_of old.slots) (rules_of old.session) (spot_of old) start (cut_one (rules_of old.session) start group asked).closed old.log.gate known')
       → Broke catalogue asked old new held held' known known' faulted stop
-  broke-of catalogue held held' faulted stop more text is (inl took) keeps grows kept plain stops handled room slots torn = record {
+  broke-of catalogue held held' faulted stop more text is (inl took) keeps grows kept plain stops handled room slots newest torn = record {
     more = more;
     out = text;
     took = took;
@@ -150,9 +190,10 @@ module _ (asked : Request) (old new : EngineParts) (known known' : Devices (Opti
     handled = handled;
     room = room;
     slots = slots;
+    newest = newest;
     torn = torn;
   }
-  broke-of catalogue held held' faulted stop more text is (inr fault) keeps grows kept plain stops handled room slots torn = record {
+  broke-of catalogue held held' faulted stop more text is (inr fault) keeps grows kept plain stops handled room slots newest torn = record {
     more = more;
     out = take fault.1.count text;
     took = fault.1.prefix;
@@ -166,14 +207,15 @@ module _ (asked : Request) (old new : EngineParts) (known known' : Devices (Opti
     handled = handled;
     room = room;
     slots = slots;
+    newest = newest;
     torn = torn;
   }
 
   -- a request was answered
-  pub answered-one : (more : List Reply) → ((start : SessionState) (group : List Request) → IsInGroup start group old.session → Closes (rules_of old.session) old.log.gate.place start (cut_one (rules_of old.session) start group asked) more new)
+  pub answered-one : (more : List Reply) → ((start : SessionState) (group : List Request) → IsInGroup start group old.session → Closes (rules_of old.session) (spot_of old) start (cut_one (rules_of old.session) start group asked) more new)
       → KeepsEach (commits (rules_of old.session) (state_now old.session) asked) old new known known' → StandsForEach (commits (rules_of old.session) (state_now old.session) asked) old new known known'
       → rules_of new.session ≡ rules_of old.session → OnlyGrows old new → AllByRecursion (IsKept new) more → AllByRecursion IsPlain more
-      → (asked ≡ request.Save → slot_len (rules_of old.session) (state_now old.session) (place_after_group old.log.gate.place old.session.txns) ≤ MAX_SLOT_LEN)
+      → (asked ≡ request.Save → saves_anew (saved_of old) (state_now old.session).number ≡ true → slot_len (rules_of old.session) (state_now old.session) ≤ MAX_SLOT_LEN)
       → durable_of new ≡ new.session.before → ((asked ≡ request.Save → ⊥) → slots_of known' ≡ slots_of known)
       → Answered (asked ∷ []) more old new known known'
   answered-one more closes keeps stands same grows kept plain small durable slots = record {
@@ -200,7 +242,7 @@ module _ (asked : Request) (old new : EngineParts) (known known' : Devices (Opti
 -- nothing was asked
 pub answered-none : (e : EngineParts) (known : Devices (Option DiskHistory)) → StandsForEach [] e e known known → Answered [] [] e e known known
 answered-none e known stands = record {
-  closes = λ rules place start whole given is. subst (λ (l : List Reply). Closes rules place start whole l e) (sym (append-nil given)) is;
+  closes = λ rules spot start whole given is. subst (λ (l : List Reply). Closes rules spot start whole l e) (sym (append-nil given)) is;
   keeps = nothing-keeps e known;
   stands = stands;
   same = refl;

@@ -7,37 +7,49 @@ use Rattle.std.proofs.lemmas.Grind.{flat_map-append}
 use Rattle.std.proofs.Math.Seq.{take-append_seam}
 use Rattle.std.proofs.lemmas.List.{take-append-drop}
 use Rattle.pac_ops.specs.declared.transaction.Txn.{Txn}
-use Rattle.pac_outside.specs.Devices.{AreImages, RunsAsBefore, OnceKnown, IfAllKnown, all_known}
+use Rattle.pac_outside.specs.Devices.{AreImages, RunsAsBefore, OnceKnown, IfAllKnown, WhileKnown, all_known, each, log_at}
 use Rattle.pac_outside.specs.Disk.{DiskHistory, DiskState, IfKnown, settled}
 use Rattle.pac_outside.specs.Parts.{OfLog, known_read, known_reads, reads_of, slots_of}
+use Rattle.pac_outside.specs.GateByte.{OneImage}
 use Rattle.pac_outside.proofs.Runs.{run_end, run_then, weaken_run}
 use Rattle.pac_outside.specs.declared.devices.Devices.{Devices}
+use Rattle.pac_outside.specs.declared.devices.LogName.{LogName}
+use Rattle.pac_log.specs.declared.header.HeaderForm.TheVariants.{Later}
+use Rattle.pac_log.specs.Logs.{header_bytes, header_with}
 use Rattle.pac_log.specs.declared.position.NextGate.{NextGate}
 use Rattle.pac_log.specs.Places.{LogEndsAt}
 use Rattle.pac_log.specs.Torn.{LogEndsAtEither}
+use Rattle.pac_check.specs.declared.state.SlotState.{SlotState}
+use Rattle.pac_check.specs.SlotStates.{active_in, active_of, IsSlot, IsSlotFront}
+use Rattle.pac_check.proofs.FrontLemmas.{front_of_slot}
+use Rattle.pac_types.specs.declared.table.Table.{Table}
 use Rattle.pac_types.specs.CatalogueText.{HasCatalogue}
 use Rattle.pac_types.specs.Execution.{first_over}
 use Rattle.pac_types.specs.Typing.{CatalogueState}
 use Rattle.pac_store.specs.Images.{Images, IfImagesKnown}
 use Rattle.pac_store.proofs.ImageLemmas.{images-any, images-then}
 use Rattle.pac_store.specs.Stands.{StandsFor}
+use Rattle.pac_store.specs.Stored.{active_among}
+use Rattle.pac_store.proofs.StandsLemmas.{fewer}
 use Rattle.pac_request.specs.declared.request.Request.{Request}
 use Rattle.pac_request.specs.declared.request.Request.TheVariants as request
 use Rattle.pac_request.specs.declared.request.Reply.{Reply}
 use Rattle.pac_report.specs.Replies.{reply_text}
+use Rattle.pac_session.specs.Groups.{LogSpot}
 use Rattle.pac_session.specs.Session.{Rules, SessionState, committed, replies}
 use Rattle.pac_session.specs.Open.{rules_of, state_now}
-use Rattle.pac_recover.specs.declared.errors.RecoverError.{RecoverError}
-use Rattle.pac_recover.specs.Recovering.{IsRecoveredFrom}
+use Rattle.pac_restore.specs.declared.errors.RecoverError.{RecoverError}
+use Rattle.pac_restore.specs.Restoring.{IsRecoveredFrom}
 use Rattle.pac_engine.specs.declared.parts.EngineParts.{EngineParts}
-use Rattle.pac_engine.specs.Standing.{KeepsHistory, MayLeave, StandsOn, StandsWith, WhileKnown, durable_of, saved_of}
+use Rattle.pac_engine.specs.Standing.{HasDevices, KeepsHistory, MayLeave, StandsOn, StandsWith, durable_of, saved_of, spot_of}
+use Rattle.pac_engine.proofs.DeviceLemmas.{log-each}
 use Rattle.pac_run.specs.declared.stop.RunStop.{RunStop}
-use Rattle.pac_run.specs.declared.stop.RunStop.TheVariants.{LogFull, Opening}
+use Rattle.pac_run.specs.declared.stop.RunStop.TheVariants.{LogFull, Opening, TooLarge}
 use Rattle.pac_run.specs.Asked.{WereHandled}
 use Rattle.pac_run.specs.Opening.{AllStand, BeginsOver, IsFresh, IsOpenedFrom, StandsForPrefix}
 use Rattle.pac_run.specs.Run.{AtExit, AtMoments, IsBegun, IsExit, IsRun, IsWholeRun, LogHas, LogHasEither, history_after}
 use Rattle.pac_run.specs.Serving.{IsDone, Served}
-use Rattle.pac_run.specs.Stopping.{AreFirst, EndsGroups, HasWorked, IsStopped, IsStoppedAt, IsTorn, IsUnopened, StopsOpening, StopsThere}
+use Rattle.pac_run.specs.Stopping.{AreFirst, EndsGroups, EndsUnsaved, HasWorked, IsStopped, IsStoppedAt, IsTorn, IsUnopened, OfActive, OfNewest, StopsOpening, StopsThere, closed_number, place_closed, place_unsaved}
 use Rattle.pac_run.specs.Texts.{IsTextPrefix, texts}
 use Rattle.pac_run.proofs.AckedLemmas.{acknowledged, known-saved}
 use Rattle.pac_run.proofs.NameLemmas.{names-of}
@@ -75,28 +87,52 @@ as-before P R step None y runs = tt
 as-before P R step (Some x) None runs = absurd runs
 as-before P R step (Some x) (Some y) runs = λ is. step x y runs is
 
--- what is said of the log leads to something else
-of-log : (P Q : DiskState → Type 0) → ((state : DiskState) → P state → Q state) → (known : Devices (Option DiskHistory)) → OfLog P known → OfLog Q known
-of-log P Q step known has = go known.log has
+-- what is said of a segment leads to something else
+of-log : (P Q : DiskState → Type 0) → ((state : DiskState) → P state → Q state) → (name : LogName) (known : Devices (Option DiskHistory)) → OfLog P name known → OfLog Q name known
+of-log P Q step name known has = go (log_at name known) has
   where
     go : (log : Option DiskHistory) → IfKnown (λ history. P history.now) log → IfKnown (λ history. Q history.now) log
     go None has = tt
     go (Some l) has = step l.now has
 
-module _ (rules : Rules) (place : ℕ) (start : SessionState) where
-  -- a log that ends after groups has their transactions
-  log-has : (requests : List Request) (gate : NextGate) → EndsGroups rules place start requests gate → (state : DiskState) → LogEndsAt gate state → LogHas rules place start requests state
-  log-has requests gate after state at = record { header = at.header; catalogue = gate.catalogue; batches = at.batches; log = at.holds; exactly = sym at.after.txns ∙ after.counted; there = sym at.after.place ∙ after.there }
+of-active : (P Q : DiskState → Type 0) → ((state : DiskState) → P state → Q state) → (known : Devices (Option DiskHistory)) → OfActive P known → OfActive Q known
+of-active P Q step known is = record { a = is.a; b = is.b; begins_a = is.begins_a; begins_b = is.begins_b; log = of-log P Q step (active_among is.a is.b) known is.log }
 
-  pub log-has-one : (requests : List Request) (gate : NextGate) → EndsGroups rules place start requests gate → (known : Devices (Option DiskHistory)) → OfLog (LogEndsAt gate) known → OfLog (LogHas rules place start requests) known
-  log-has-one requests gate after = of-log (LogEndsAt gate) (LogHas rules place start requests) (log-has requests gate after)
+-- the engine's segment is the active one
+begins-so : (tables : List Table) (state : SlotState) (device : Option DiskHistory) → IfKnown (λ h. OneImage (IsSlot tables state) h.now) device → IfKnown (λ h. OneImage (IsSlotFront state) h.now) device
+begins-so tables state None is = tt
+begins-so tables state (Some h) is = record { one = is.one; has = front_of_slot tables state h.now.seen is.has }
 
-  pub log-has-either : (before requests : List Request) (known : Devices (Option DiskHistory)) → IsTorn rules place start before requests known → OfLog (LogHasEither rules place start before requests) known
-  log-has-either before requests known torn = of-log (LogEndsAtEither torn.gate torn.next) (LogHasEither rules place start before requests) (λ state either image is. one image (either image is)) known torn.either
+pub active-ends : {D : Type 0} (see : D → Option DiskHistory) (engine : EngineParts) (devices : Devices D) → HasDevices see engine devices → OfActive (LogEndsAt engine.log.gate) (each see devices)
+active-ends see engine devices has = record {
+  a = engine.slots.a;
+  b = engine.slots.b;
+  begins_a = begins-so engine.session.catalogue.tables engine.slots.a (see devices.slot_a) has.slot_a;
+  begins_b = begins-so engine.session.catalogue.tables engine.slots.b (see devices.slot_b) has.slot_b;
+  log = subst (λ (l : Option DiskHistory). IfKnown (λ h. LogEndsAt engine.log.gate h.now) l) (sym (log-each see (active_of engine.slots) devices)) has.log;
+}
+
+module _ (rules : Rules) (spot : LogSpot) (start : SessionState) where
+  -- a segment that ends after groups has their transactions
+  log-has : (requests : List Request) (gate : NextGate) (place : ℕ) → gate.txns ≡ closed_number rules start requests → gate.place ≡ place → (state : DiskState) → LogEndsAt gate state → LogHas rules start requests place state
+  log-has requests gate place counted there state at = record { header = at.header; catalogue = gate.catalogue; batches = at.batches; log = at.holds; exactly = sym at.after.txns ∙ counted; there = sym at.after.place ∙ there }
+
+  pub log-has-one : (requests : List Request) (gate : NextGate) → EndsGroups rules spot start requests gate → (known : Devices (Option DiskHistory)) → OfActive (LogEndsAt gate) known → OfActive (LogHas rules start requests (place_closed rules spot start requests)) known
+  log-has-one requests gate after = of-active (LogEndsAt gate) (LogHas rules start requests (place_closed rules spot start requests)) (log-has requests gate (place_closed rules spot start requests) after.counted after.there)
+
+  pub log-has-unsaved : (requests : List Request) (gate : NextGate) → EndsUnsaved rules spot start requests gate → (known : Devices (Option DiskHistory)) → OfActive (LogEndsAt gate) known → OfActive (LogHas rules start requests (place_unsaved rules spot start requests)) known
+  log-has-unsaved requests gate after = of-active (LogEndsAt gate) (LogHas rules start requests (place_unsaved rules spot start requests)) (log-has requests gate (place_unsaved rules spot start requests) after.counted after.there)
+
+  pub log-has-either : (before requests : List Request) (known : Devices (Option DiskHistory)) → IsTorn rules spot start before requests known → OfNewest (LogHasEither rules spot start before requests) known
+  log-has-either before requests known torn = record {
+    newest = torn.either.newest;
+    stays = torn.either.stays;
+    log = of-log (LogEndsAtEither torn.gate torn.next) (LogHasEither rules spot start before requests) (λ state either image is. one image (either image is)) (active_in torn.either.newest) known torn.either.log;
+  }
     where
-      one : (image : List ℕ) → LogEndsAt torn.gate (settled image) ⊎ LogEndsAt torn.next (settled image) → LogHas rules place start before (settled image) ⊎ LogHas rules place start requests (settled image)
-      one image (inl at) = inl (log-has before torn.gate torn.ended (settled image) at)
-      one image (inr at) = inr (log-has requests torn.next torn.ends (settled image) at)
+      one : (image : List ℕ) → LogEndsAt torn.gate (settled image) ⊎ LogEndsAt torn.next (settled image) → LogHas rules start before (place_closed rules spot start before) (settled image) ⊎ LogHas rules start requests (place_unsaved rules spot start requests) (settled image)
+      one image (inl at) = inl (log-has before torn.gate (place_closed rules spot start before) torn.ended.counted torn.ended.there (settled image) at)
+      one image (inr at) = inr (log-has requests torn.next (place_unsaved rules spot start requests) torn.ends.counted torn.ends.there (settled image) at)
 
 -- what a read gives of the slots is as it was, where it is of all devices
 pub slots-seen : (known known' : Devices (Option DiskHistory)) → known_reads known' ≡ known_reads known → slots_of (known_reads known') ≡ slots_of (known_reads known)
@@ -129,11 +165,11 @@ module _ (batch limit : ℕ) (left held : Option (List ℕ)) (known known' : Dev
         limited = refl;
         most = refl;
         start = start;
-        place = 0;
-        begun = none-begun (IsBegun rules 0 start) error known;
+        spot = record { place = 0; reach = 0; next = 0 };
+        begun = none-begun (IsBegun rules (record { place = 0; reach = 0; next = 0 }) start) error known;
         prefix = record { count = 0; is = refl };
         whole = tt;
-        exit = λ text catalogue history least. as-before (AllStand text catalogue history least) (AtExit text catalogue history rules 0 start [] []) (λ u v run stands. inl (refl, λ images are. run_end (AreImages u) u v run images are)) _ _ runs;
+        exit = λ text catalogue history least. as-before (AllStand text catalogue history least) (AtExit text catalogue history rules (record { place = 0; reach = 0; next = 0 }) start [] []) (λ u v run stands. inl (refl, λ images are. run_end (AreImages u) u v run images are)) _ _ runs;
         moments = λ text catalogue history least. as-before (AllStand text catalogue history least) (AtMoments text catalogue history least rules start [])
             (λ u v run stands. weaken_run (AreImages u) (λ images. AreImages u images ⊎ StandsFor text catalogue (history_after history rules start []) least images) (λ images are. inl are) u v run) _ _ runs;
         given = [];
@@ -143,6 +179,7 @@ module _ (batch limit : ℕ) (left held : Option (List ℕ)) (known known' : Dev
         saves = λ before rest same handled. absurd (none-saved before rest same);
         stopped = inl ((error, refl), refl, refl);
         exact = λ worked. absurd worked;
+        large = λ bytes large. absurd cc;
         full = λ need full. absurd cc;
         torn = λ disk. absurd cc;
         slots = λ none. slots-seen known known' seen;
@@ -165,7 +202,7 @@ stops-part (Err stop) P R S is step = step stop is
 
 module _ (batch limit : ℕ) (engine new : EngineParts) (left left' held held' : Option (List ℕ)) (known middle known' : Devices (Option DiskHistory)) (faulted : Type 0) (result : Result (Unit {0}) RunStop) (fresh : IsFresh batch limit engine)
     (within : first_over limit (length engine.session.catalogue.tables) engine.session.tables ≡ None) (opened : IfImagesKnown (IsOpenedFrom engine) known) (begins : IfAllKnown (BeginsOver engine) known middle) (runs : IfAllKnown RunsAsBefore known middle)
-    (seen : known_reads middle ≡ known_reads known) (served : Served engine new left left' held held' middle known' faulted result) (ended : HasWorked result → OfLog (LogEndsAt new.log.gate) known') (full : (need : ℕ) → IsErrOf result (LogFull need) → OfLog (LogEndsAt new.log.gate) known') where
+    (seen : known_reads middle ≡ known_reads known) (served : Served engine new left left' held held' middle known' faulted result) (ended : HasWorked result → OfActive (LogEndsAt new.log.gate) known') (large : (bytes : ℕ) → IsErrOf result (TooLarge bytes) → OfActive (LogEndsAt new.log.gate) known') (full : (need : ℕ) → IsErrOf result (LogFull need) → OfActive (LogEndsAt new.log.gate) known') where
   abbrev rules : Rules
   rules = rules_of engine.session
 
@@ -175,21 +212,27 @@ module _ (batch limit : ℕ) (engine new : EngineParts) (left left' held held' :
   number-is : (state_now engine.session).number ≡ durable_of engine
   number-is = omega (arith, ap (λ (t : List Txn). length t) fresh.txns, fresh.before)
 
-  begun-here : (images : Images) → IsOpenedFrom engine images → IsBegun (rules_of engine.session) engine.log.gate.place (state_now engine.session) images
+  begun-here : (images : Images) → IsOpenedFrom engine images → IsBegun (rules_of engine.session) (spot_of engine) (state_now engine.session) images
   begun-here images is = record {
     recovered = subst (λ (n : ℕ). IsRecoveredFrom engine.session.catalogue engine.session.tables n images) (sym number-is) is.recovered;
-    header = is.header;
+    a = engine.slots.a;
+    b = engine.slots.b;
+    is_a = is.is_a;
+    is_b = is.is_b;
+    header = engine.log.gate.header;
     batches = is.batches;
     log = is.log;
     there = is.after.place;
+    reach = refl;
+    next = ap (λ (n : ℕ). length (header_bytes (header_with (Later n) engine.log.gate.header.text))) (sym number-is);
     within = subst (λ (n : ℕ). first_over n (length engine.session.catalogue.tables) engine.session.tables ≡ None) (sym fresh.within) within;
   }
 
-  begun-seen : IfImagesKnown (IsBegun (rules_of engine.session) engine.log.gate.place (state_now engine.session)) known
-  begun-seen = images-then (IsOpenedFrom engine) (IsBegun (rules_of engine.session) engine.log.gate.place (state_now engine.session)) begun-here known opened
+  begun-seen : IfImagesKnown (IsBegun (rules_of engine.session) (spot_of engine) (state_now engine.session)) known
+  begun-seen = images-then (IsOpenedFrom engine) (IsBegun (rules_of engine.session) (spot_of engine) (state_now engine.session)) begun-here known opened
 
-  begun-known : IfImagesKnown (λ images. IsUnopened result served.requests ⊎ IsBegun (rules_of engine.session) engine.log.gate.place (state_now engine.session) images) known
-  begun-known = images-then (IsOpenedFrom engine) (λ images. IsUnopened result served.requests ⊎ IsBegun (rules_of engine.session) engine.log.gate.place (state_now engine.session) images) (λ images is. inr (begun-here images is)) known opened
+  begun-known : IfImagesKnown (λ images. IsUnopened result served.requests ⊎ IsBegun (rules_of engine.session) (spot_of engine) (state_now engine.session) images) known
+  begun-known = images-then (IsOpenedFrom engine) (λ images. IsUnopened result served.requests ⊎ IsBegun (rules_of engine.session) (spot_of engine) (state_now engine.session) images) (λ images is. inr (begun-here images is)) known opened
 
   module _ (text : List ℕ) (catalogue : CatalogueState) (history : List Txn) (least : ℕ) where
     abbrev after : List Txn
@@ -221,9 +264,8 @@ module _ (batch limit : ℕ) (engine new : EngineParts) (left left' held held' :
           → StandsFor text catalogue (history_after history (rules_of engine.session) (state_now engine.session) served.requests) least images
       stands-one images is =
           let s = is.stands in
-          let fewer : StandsFor text engine.session.catalogue kept-as least images
-          = record { executes = s.executes; batches = s.batches; log = s.log; later = s.later; prefix = s.prefix; enough = omega (arith, begin.enough, s.enough); slot_a = s.slot_a; slot_b = s.slot_b } in
-          subst (λ (h : List Txn). StandsFor text catalogue h least images) same-history (subst (λ (c : CatalogueState). StandsFor text c kept-as least images) begin.same fewer)
+          let less : StandsFor text engine.session.catalogue kept-as least images = fewer text engine.session.catalogue kept-as (durable_of engine) least images begin.enough s in
+          subst (λ (h : List Txn). StandsFor text catalogue h least images) same-history (subst (λ (c : CatalogueState). StandsFor text c kept-as least images) begin.same less)
 
       pub each-moment : RunsAsBefore entry mid → AtMoments text catalogue history least (rules_of engine.session) (state_now engine.session) served.requests entry now
       each-moment run =
@@ -234,10 +276,10 @@ module _ (batch limit : ℕ) (engine new : EngineParts) (left left' held held' :
 
     -- what the engine stands for says the catalogue's text
     text-of : (h : List Txn) (devices : Devices DiskHistory) → StandsOn text h engine devices → HasCatalogue text engine.session.catalogue
-    text-of h devices is = is.log.has.log.accepted.has
+    text-of h devices is = is.still.log.has.log.accepted.has
 
-    exit-known : (t m n : Option (Devices DiskHistory)) → IfSome t (λ devices. IsBegun (rules_of engine.session) engine.log.gate.place (state_now engine.session) (reads_of devices)) → OnceKnown (BeginsOver engine) t m → WhileKnown (StandsOn text (take (durable_of engine) history) engine) (KeepsHistory text (take (durable_of engine) history ++ committed (rules_of engine.session) (state_now engine.session) served.requests) engine new) m n
-        → WhileKnown (AllStand text catalogue history least) (AtExit text catalogue history (rules_of engine.session) engine.log.gate.place (state_now engine.session) served.requests served.out) t n
+    exit-known : (t m n : Option (Devices DiskHistory)) → IfSome t (λ devices. IsBegun (rules_of engine.session) (spot_of engine) (state_now engine.session) (reads_of devices)) → OnceKnown (BeginsOver engine) t m → WhileKnown (StandsOn text (take (durable_of engine) history) engine) (KeepsHistory text (take (durable_of engine) history ++ committed (rules_of engine.session) (state_now engine.session) served.requests) engine new) m n
+        → WhileKnown (AllStand text catalogue history least) (AtExit text catalogue history (rules_of engine.session) (spot_of engine) (state_now engine.session) served.requests served.out) t n
     exit-known None m n seen begin keep = tt
     exit-known (Some t) None n seen begin keep = absurd begin
     exit-known (Some t) (Some m) None seen begin keep = λ all. keep (begin text catalogue history least all).stands
@@ -250,8 +292,8 @@ module _ (batch limit : ℕ) (engine new : EngineParts) (left left' held held' :
     moments-known (Some t) (Some m) None begin run keep = λ all. keep (begin text catalogue history least all).stands
     moments-known (Some t) (Some m) (Some n) begin run keep = λ all. let prefix = begin text catalogue history least all in each-moment t m n prefix (text-of (take (durable_of engine) history) m prefix.stands) (keep prefix.stands) run
 
-  then-there : (run : Result (Unit {0}) RunStop) → IfErr run (λ stop. StopsThere (rules_of engine.session) engine.log.gate.place (state_now engine.session) served.requests served.given served.out stop)
-      → IfErr run (λ stop. (StopsOpening stop × (served.requests ≡ [])) ⊎ StopsThere (rules_of engine.session) engine.log.gate.place (state_now engine.session) served.requests served.given served.out stop)
+  then-there : (run : Result (Unit {0}) RunStop) → IfErr run (λ stop. StopsThere (rules_of engine.session) (spot_of engine) (state_now engine.session) served.requests served.given served.out stop)
+      → IfErr run (λ stop. (StopsOpening stop × (served.requests ≡ [])) ⊎ StopsThere (rules_of engine.session) (spot_of engine) (state_now engine.session) served.requests served.given served.out stop)
   then-there (Ok done) is = tt
   then-there (Err stop) is = inr is
 
@@ -273,10 +315,10 @@ module _ (batch limit : ℕ) (engine new : EngineParts) (left left' held held' :
     limited = fresh.within;
     most = fresh.most;
     start = start;
-    place = engine.log.gate.place;
+    spot = spot_of engine;
     begun = begun-known;
     prefix = prefix-of-all engine.session.catalogue served.given (replies rules start served.requests) served.out served.prefix served.firsts;
-    whole = three-parts result (IsDone rules engine.log.gate.place start served.requests served.given served.out) (IsWholeRun rules engine.log.gate.place start served.requests served.out) (λ stop. IsStoppedAt rules engine.log.gate.place start served.requests served.given stop) served.ending
+    whole = three-parts result (IsDone rules (spot_of engine) start served.requests served.given served.out) (IsWholeRun rules (spot_of engine) start served.requests served.out) (λ stop. IsStoppedAt rules (spot_of engine) start served.requests served.given stop) served.ending
         (λ done. record { before = done.before; stops = done.stops; written = done.written ∙ ap (texts engine.session.catalogue) done.replied; fit = done.fit });
     exit = λ text catalogue history least. exit-known text catalogue history least (all_known known) (all_known middle) (all_known known') begun-seen begins (served.keeps text (take (durable_of engine) history));
     moments = λ text catalogue history least. moments-known text catalogue history least (all_known known) (all_known middle) (all_known known') begins runs (served.keeps text (take (durable_of engine) history));
@@ -285,11 +327,12 @@ module _ (batch limit : ℕ) (engine new : EngineParts) (left left' held held' :
     all = served.whole;
     fit = served.fit;
     saves = served.saves;
-    exact = λ worked. log-has-one rules engine.log.gate.place start served.requests new.log.gate (served.durable worked) known' (ended worked);
-    full = λ need is. let last = served.full need is in (last.0, last.1, last.2, log-has-one rules engine.log.gate.place start last.0 new.log.gate last.3 known' (full need is));
-    torn = λ is. let last = served.torn is in (last.0, last.1, last.2, log-has-either rules engine.log.gate.place start last.0 served.requests known' last.3);
+    exact = λ worked. log-has-one rules (spot_of engine) start served.requests new.log.gate (served.durable worked) known' (ended worked);
+    large = λ bytes is. log-has-unsaved rules (spot_of engine) start served.requests new.log.gate (served.large bytes is) known' (large bytes is);
+    full = λ need is. let last = served.full need is in (last.0, last.1, last.2, log-has-one rules (spot_of engine) start last.0 new.log.gate last.3 known' (full need is));
+    torn = λ is. let last = served.torn is in (last.0, last.1, last.2, log-has-either rules (spot_of engine) start last.0 served.requests known' last.3);
     slots = λ none. slots-uncalled middle known' (served.slots none) ∙ slots-seen known middle seen;
     still = λ none. ap (λ (devices : Devices (Option DiskHistory)). known_reads devices) (served.still none) ∙ seen;
     there = then-there result served.there;
-    stopped = stops-part result (IsDone rules engine.log.gate.place start served.requests served.given served.out) (λ stop. IsStoppedAt rules engine.log.gate.place start served.requests served.given stop) (λ stop. IsStopped rules engine.log.gate.place start served.requests served.given stop) served.ending (λ stop at. inr at);
+    stopped = stops-part result (IsDone rules (spot_of engine) start served.requests served.given served.out) (λ stop. IsStoppedAt rules (spot_of engine) start served.requests served.given stop) (λ stop. IsStopped rules (spot_of engine) start served.requests served.given stop) served.ending (λ stop at. inr at);
   }

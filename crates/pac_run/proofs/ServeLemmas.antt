@@ -21,18 +21,20 @@ use Rattle.pac_request.specs.declared.request.Request.TheVariants as request
 use Rattle.pac_request.specs.declared.request.Reply.{Reply}
 use Rattle.pac_report.specs.Replies.{reply_text}
 use Rattle.pac_session.specs.Session.{Rules, SessionState, ends, replies}
-use Rattle.pac_session.specs.Groups.{GroupCut, all_requests, cut, cut_on, cut_one, described}
+use Rattle.pac_check.specs.SlotStates.{newest_of}
+use Rattle.pac_session.specs.Groups.{GroupCut, LogSpot, all_requests, cut, cut_on, cut_one, described}
 use Rattle.pac_session.specs.Open.{rules_of, state_now}
 use Rattle.pac_engine.specs.declared.parts.EngineParts.{EngineParts}
-use Rattle.pac_engine.specs.Closing.{GroupFits, IsGateAfter, IsKept}
+use Rattle.pac_engine.specs.Closing.{GroupFits, IsGateAfter, IsGateUnsaved, IsKept}
 use Rattle.pac_engine.specs.Committing.{gate_past}
-use Rattle.pac_engine.proofs.StepLemmas.{checkpoint-gate}
+use Rattle.pac_engine.specs.Standing.{spot_of}
+use Rattle.pac_engine.proofs.StepLemmas.{checkpoint-past}
 use Rattle.pac_run.specs.declared.limits.TheConstants.{MAX_INPUT}
 use Rattle.pac_run.specs.declared.stop.RunStop.{RunStop}
 use Rattle.pac_run.specs.declared.stop.RunStop.TheVariants.{Opening, InputFault, OutputFault, DiskFault, NoMemory, LogFull, TooLong, TooLarge}
 use Rattle.pac_run.specs.Asked.{WereAsked, IsOverLong, TookAtMost, WereHandled}
 use Rattle.pac_run.specs.Serving.{Broke, KeepsGate, LineServed, Replied, Served, Serving, WasHandled}
-use Rattle.pac_run.specs.Stopping.{EndsGroups, HandledLast, HasWorked, IsStoppedAt, IsTorn, SaveFits, SavesFit, StepStops, closed_groups}
+use Rattle.pac_run.specs.Stopping.{EndsGroups, EndsUnsaved, HasWorked, IsStoppedAt, IsTorn, SaveFits, SavesFit, StepStops, closed_groups}
 use Rattle.pac_run.specs.Texts.{IsTextPrefix, IsPlain, texts}
 use Rattle.pac_run.proofs.ReadLemmas.{lines-ask, more-read}
 use Rattle.pac_run.proofs.StepLemmas.{all-both, both-parts, cut-more, data-free, gate-more, gate-reached, goes-more, grown-then, keeps-more, kept-grows, never-none, save-room}
@@ -62,39 +64,34 @@ whole-more catalogue given more out faulted (inl is) = inl (ap (λ (l : List ℕ
 whole-more catalogue given more out faulted (inr r) = inr r
 
 -- a step isn't stopped by the length of the input
-never-fails : (rules : Rules) (place : ℕ) (start : SessionState) (closed : List (List Request)) (more : List Reply) (stop : RunStop) → StepStops rules place start closed more stop → stop ≡ InputFault → ⊥
-never-fails rules place start closed more stop stops is = subst (λ (s : RunStop). StepStops rules place start closed more s) is stops
+never-fails : (rules : Rules) (spot : LogSpot) (start : SessionState) (closed : List (List Request)) (more : List Reply) (stop : RunStop) → StepStops rules spot start closed more stop → stop ≡ InputFault → ⊥
+never-fails rules spot start closed more stop stops is = subst (λ (s : RunStop). StepStops rules spot start closed more s) is stops
 
-never-long : (rules : Rules) (place : ℕ) (start : SessionState) (closed : List (List Request)) (more : List Reply) (stop : RunStop) → StepStops rules place start closed more stop → stop ≡ TooLong → ⊥
-never-long rules place start closed more stop stops is = subst (λ (s : RunStop). StepStops rules place start closed more s) is stops
+never-long : (rules : Rules) (spot : LogSpot) (start : SessionState) (closed : List (List Request)) (more : List Reply) (stop : RunStop) → StepStops rules spot start closed more stop → stop ≡ TooLong → ⊥
+never-long rules spot start closed more stop stops is = subst (λ (s : RunStop). StepStops rules spot start closed more s) is stops
 
--- each closed group is in the log, where no step stops so: the output failed, or a checkpoint was too large
-worked-stop : (stop : RunStop) → HasWorked {A = Unit {0}} (Err stop) → (stop ≡ InputFault → ⊥) → (stop ≡ TooLong → ⊥) → (stop ≡ OutputFault) ⊎ ((bytes : ℕ) × (stop ≡ TooLarge bytes))
-worked-stop OutputFault worked input long = inl refl
-worked-stop (TooLarge bytes) worked input long = inr (bytes, refl)
+-- each closed group is in the log, and the last request was handled to its end, where a step was the last: the output failed
+worked-stop : (stop : RunStop) → HasWorked {A = Unit {0}} (Err stop) → (stop ≡ InputFault → ⊥) → (stop ≡ TooLong → ⊥) → stop ≡ OutputFault
+worked-stop OutputFault worked input long = refl
 worked-stop InputFault worked input long = absurd (input refl)
 worked-stop TooLong worked input long = absurd (long refl)
 worked-stop (Opening error) worked input long = absurd worked
 worked-stop DiskFault worked input long = absurd worked
 worked-stop NoMemory worked input long = absurd worked
 worked-stop (LogFull need) worked input long = absurd worked
-
--- the last request was handled to its end, where a step was the last: the output failed
-output-stop : (stop : RunStop) → HandledLast {A = Unit {0}} (Err stop) → (stop ≡ InputFault → ⊥) → (stop ≡ TooLong → ⊥) → stop ≡ OutputFault
-output-stop OutputFault handled input long = refl
-output-stop InputFault handled input long = absurd (input refl)
-output-stop TooLong handled input long = absurd (long refl)
-output-stop (Opening error) handled input long = absurd handled
-output-stop DiskFault handled input long = absurd handled
-output-stop NoMemory handled input long = absurd handled
-output-stop (LogFull need) handled input long = absurd handled
-output-stop (TooLarge bytes) handled input long = absurd handled
+worked-stop (TooLarge bytes) worked input long = absurd worked
 
 -- no line that isn't read stops a run by a full log
 reads-on : (stop : RunStop) → (stop ≡ InputFault) ⊎ ((stop ≡ TooLong) ⊎ (stop ≡ NoMemory)) → (need : ℕ) → ◌≡◌ {A = Result (Unit {0}) RunStop} (Err stop) (Err (LogFull need)) → ⊥
 reads-on stop (inl is) need same = let e : stop ≡ LogFull need = cc in let no : InputFault ≡ LogFull need = sym is ∙ e in absurd cc
 reads-on stop (inr (inl is)) need same = let e : stop ≡ LogFull need = cc in let no : TooLong ≡ LogFull need = sym is ∙ e in absurd cc
 reads-on stop (inr (inr is)) need same = let e : stop ≡ LogFull need = cc in let no : NoMemory ≡ LogFull need = sym is ∙ e in absurd cc
+
+-- nor by a checkpoint
+reads-large : (stop : RunStop) → (stop ≡ InputFault) ⊎ ((stop ≡ TooLong) ⊎ (stop ≡ NoMemory)) → (bytes : ℕ) → ◌≡◌ {A = Result (Unit {0}) RunStop} (Err stop) (Err (TooLarge bytes)) → ⊥
+reads-large stop (inl is) bytes same = let e : stop ≡ TooLarge bytes = cc in let no : InputFault ≡ TooLarge bytes = sym is ∙ e in absurd cc
+reads-large stop (inr (inl is)) bytes same = let e : stop ≡ TooLarge bytes = cc in let no : TooLong ≡ TooLarge bytes = sym is ∙ e in absurd cc
+reads-large stop (inr (inr is)) bytes same = let e : stop ≡ TooLarge bytes = cc in let no : NoMemory ≡ TooLarge bytes = sym is ∙ e in absurd cc
 
 -- nor by a device
 reads-disk : (stop : RunStop) → (stop ≡ InputFault) ⊎ ((stop ≡ TooLong) ⊎ (stop ≡ NoMemory)) → ◌≡◌ {A = Result (Unit {0}) RunStop} (Err stop) (Err DiskFault) → ⊥
@@ -118,8 +115,8 @@ module _ (first now : EngineParts) (left mid : Option (List ℕ)) (reader : Read
   abbrev start : SessionState
   start = state_now first.session
 
-  abbrev place : ℕ
-  place = first.log.gate.place
+  abbrev spot : LogSpot
+  spot = spot_of first
 
   abbrev catalogue : CatalogueState
   catalogue = first.session.catalogue
@@ -156,14 +153,15 @@ module _ (first now : EngineParts) (left mid : Option (List ℕ)) (reader : Read
           grows = serving.goes.grows;
           kept = serving.goes.kept;
           plain = serving.goes.plain;
-          firsts = stopped-first rules place start serving.requests serving.given stop stopped;
+          firsts = stopped-first rules spot start serving.requests serving.given stop stopped;
           ending = stopped;
           durable = λ worked. gate-reached first now serving.requests serving.given known known' serving.goes;
+          large = λ bytes is. absurd (reads-large stop why bytes is);
           full = λ need is. absurd (reads-on stop why need is);
           torn = λ is. absurd (reads-disk stop why is);
           slots = serving.goes.slots;
           still = serving.goes.still;
-          fit = all-fit (closed_groups rules place start serving.requests) serving.given serving.goes.closes.replied serving.goes.closes.fit;
+          fit = all-fit (closed_groups rules spot start serving.requests) serving.given serving.goes.closes.replied serving.goes.closes.fit;
           saves = λ before rest same handled. serving.goes.saves before rest same;
           there = there-reading first now serving.requests serving.given known known' serving.goes stop why;
         }
@@ -178,7 +176,7 @@ module _ (first now : EngineParts) (left mid : Option (List ℕ)) (reader : Read
     abbrev middle : SessionState
     middle = ends (rules_of first.session) (state_now first.session) (all_requests (cut (rules_of first.session) (state_now first.session) serving.requests).closed)
 
-    stopped : IsStoppedAt (rules_of first.session) first.log.gate.place (state_now first.session) (serving.requests ++ asks ∷ []) (serving.given ++ broke.more) stop
+    stopped : IsStoppedAt (rules_of first.session) (spot_of first) (state_now first.session) (serving.requests ++ asks ∷ []) (serving.given ++ broke.more) stop
     stopped = stopped-more first now serving.requests serving.given known known' serving.goes asks broke.more stop broke.stops
 
     same-too : ◌≡◌ {A = Result (Unit {0}) RunStop} (Err stop) (Err TooLong) → stop ≡ TooLong
@@ -193,8 +191,8 @@ module _ (first now : EngineParts) (left mid : Option (List ℕ)) (reader : Read
       ahead = ahead;
       handled = handled;
       few = λ other. few;
-      long = λ is. absurd (never-long (rules_of now.session) now.log.gate.place middle (cut_one (rules_of now.session) middle whole.rest asks).closed broke.more stop (broke.stops middle whole.rest serving.goes.closes.within) (same-too is));
-      cut = λ is. absurd (never-fails (rules_of now.session) now.log.gate.place middle (cut_one (rules_of now.session) middle whole.rest asks).closed broke.more stop (broke.stops middle whole.rest serving.goes.closes.within) (same-input is));
+      long = λ is. absurd (never-long (rules_of now.session) (spot_of now) middle (cut_one (rules_of now.session) middle whole.rest asks).closed broke.more stop (broke.stops middle whole.rest serving.goes.closes.within) (same-too is));
+      cut = λ is. absurd (never-fails (rules_of now.session) (spot_of now) middle (cut_one (rules_of now.session) middle whole.rest asks).closed broke.more stop (broke.stops middle whole.rest serving.goes.closes.within) (same-input is));
       no_further = λ input far memory. short;
       requests = serving.requests ++ asks ∷ [];
       asked = asked;
@@ -208,14 +206,15 @@ module _ (first now : EngineParts) (left mid : Option (List ℕ)) (reader : Read
       grows = grown-then first now new serving.goes.grows broke.grows;
       kept = all-both (IsKept new) serving.given broke.more (kept-grows now new broke.grows serving.given serving.goes.kept) broke.kept;
       plain = all-both IsPlain serving.given broke.more serving.goes.plain broke.plain;
-      firsts = stopped-first rules place start (serving.requests ++ asks ∷ []) (serving.given ++ broke.more) stop stopped;
+      firsts = stopped-first rules spot start (serving.requests ++ asks ∷ []) (serving.given ++ broke.more) stop stopped;
       ending = stopped;
-      durable = λ worked. durable-by (worked-stop stop worked (λ is. at is) (λ is. long-at is));
+      durable = λ worked. durable-at (worked-stop stop worked (λ is. at is) (λ is. long-at is));
+      large = λ bytes is. durable-large bytes (same-large bytes is);
       full = λ need is. (serving.requests, asks, refl, durable-before need (same-full need is));
       torn = λ is. (serving.requests, asks, refl, torn-here (same-disk is));
       slots = λ none. let parts = both-parts (λ r. r ≡ request.Save → ⊥) serving.requests (asks ∷ []) none in broke.slots parts.1.0 ∙ serving.goes.slots parts.0;
       still = λ none. absurd (never-none serving.requests asks none);
-      fit = stopped-fit rules place start (serving.requests ++ asks ∷ []) (serving.given ++ broke.more) stop stopped at long-at fit-at;
+      fit = stopped-fit rules spot start (serving.requests ++ asks ∷ []) (serving.given ++ broke.more) stop stopped at long-at fit-at;
       saves = saves-fit;
       there = stops-there first now serving.requests serving.given known known' serving.goes asks broke.more stop broke.stops broke.out;
     }
@@ -225,56 +224,59 @@ module _ (first now : EngineParts) (left mid : Option (List ℕ)) (reader : Read
         risen (inr r) = inr (later r)
 
         at : stop ≡ InputFault → ⊥
-        at = never-fails (rules_of now.session) now.log.gate.place middle (cut_one (rules_of now.session) middle whole.rest asks).closed broke.more stop (broke.stops middle whole.rest serving.goes.closes.within)
+        at = never-fails (rules_of now.session) (spot_of now) middle (cut_one (rules_of now.session) middle whole.rest asks).closed broke.more stop (broke.stops middle whole.rest serving.goes.closes.within)
 
         long-at : stop ≡ TooLong → ⊥
-        long-at = never-long (rules_of now.session) now.log.gate.place middle (cut_one (rules_of now.session) middle whole.rest asks).closed broke.more stop (broke.stops middle whole.rest serving.goes.closes.within)
+        long-at = never-long (rules_of now.session) (spot_of now) middle (cut_one (rules_of now.session) middle whole.rest asks).closed broke.more stop (broke.stops middle whole.rest serving.goes.closes.within)
 
         same-full : (need : ℕ) → ◌≡◌ {A = Result (Unit {0}) RunStop} (Err stop) (Err (LogFull need)) → stop ≡ LogFull need
         same-full need e = cc
+
+        same-large : (bytes : ℕ) → ◌≡◌ {A = Result (Unit {0}) RunStop} (Err stop) (Err (TooLarge bytes)) → stop ≡ TooLarge bytes
+        same-large bytes e = cc
 
         same-disk : ◌≡◌ {A = Result (Unit {0}) RunStop} (Err stop) (Err DiskFault) → stop ≡ DiskFault
         same-disk e = cc
 
         -- of a full log: its gate stands where it stood before the last request
-        durable-before : (need : ℕ) → stop ≡ LogFull need → EndsGroups (rules_of first.session) first.log.gate.place (state_now first.session) serving.requests new.log.gate
+        durable-before : (need : ℕ) → stop ≡ LogFull need → EndsGroups (rules_of first.session) (spot_of first) (state_now first.session) serving.requests new.log.gate
         durable-before need is =
             let stays : new.log.gate ≡ now.log.gate = subst (λ (s : RunStop). KeepsGate asks now new s) is broke.room in
-            subst (λ (gate : NextGate). EndsGroups rules place start serving.requests gate) (sym stays) (gate-reached first now serving.requests serving.given known known' serving.goes)
+            subst (λ (gate : NextGate). EndsGroups rules spot start serving.requests gate) (sym stays) (gate-reached first now serving.requests serving.given known known' serving.goes)
 
-        durable-large : (bytes : ℕ) → stop ≡ TooLarge bytes → EndsGroups (rules_of first.session) first.log.gate.place (state_now first.session) (serving.requests ++ asks ∷ []) new.log.gate
+        durable-large : (bytes : ℕ) → stop ≡ TooLarge bytes → EndsUnsaved (rules_of first.session) (spot_of first) (state_now first.session) (serving.requests ++ asks ∷ []) new.log.gate
         durable-large bytes is =
             let stays : (asks ≡ request.Save) × (new.log.gate ≡ gate_past now.session.txns now.log.gate) = subst (λ (s : RunStop). KeepsGate asks now new s) is broke.room in
             let past = gate_past now.session.txns now.log.gate in
-            subst (λ (gate : NextGate). EndsGroups rules place start (serving.requests ++ asks ∷ []) gate) (sym stays.1)
+            subst (λ (gate : NextGate). EndsUnsaved rules spot start (serving.requests ++ asks ∷ []) gate) (sym stays.1)
             (gate-more first now serving.requests serving.given known known' serving.goes asks past
-            (subst (λ (r : Request). IsGateAfter (rules_of now.session) now.log.gate.place middle (cut_one (rules_of now.session) middle whole.rest r).closed past) (sym stays.0) (checkpoint-gate now serving.goes.durable middle whole.rest serving.goes.closes.within)))
+            (subst (λ (r : Request). IsGateUnsaved (rules_of now.session) (spot_of now) middle (cut_one (rules_of now.session) middle whole.rest r).closed past) (sym stays.0) (checkpoint-past now serving.goes.durable middle whole.rest serving.goes.closes.within)))
 
-        durable-at : stop ≡ OutputFault → EndsGroups (rules_of first.session) first.log.gate.place (state_now first.session) (serving.requests ++ asks ∷ []) new.log.gate
+        durable-at : stop ≡ OutputFault → EndsGroups (rules_of first.session) (spot_of first) (state_now first.session) (serving.requests ++ asks ∷ []) new.log.gate
         durable-at out =
             let handled = broke.handled out in
-            let closes = handled.closes rules place start whole serving.given serving.goes.closes in
-            let after : IsGateAfter rules place start (cut_on rules start whole asks).closed new.log.gate = record { counted = handled.durable ∙ sym closes.within.begun; there = closes.there } in
-            subst (λ (c : GroupCut). IsGateAfter rules place start c.closed new.log.gate) (sym (cut-more first now serving.requests serving.given known known' serving.goes (asks ∷ []))) after
+            let closes = handled.closes rules spot start whole serving.given serving.goes.closes in
+            let after : IsGateAfter rules spot start (cut_on rules start whole asks).closed new.log.gate = record { counted = handled.durable ∙ sym closes.within.begun; there = ap (λ (s : LogSpot). s.place) closes.there } in
+            subst (λ (c : GroupCut). IsGateAfter rules spot start c.closed new.log.gate) (sym (cut-more first now serving.requests serving.given known known' serving.goes (asks ∷ []))) after
 
-        fit-at : stop ≡ OutputFault → AllByRecursion GroupFits (closed_groups (rules_of first.session) first.log.gate.place (state_now first.session) (serving.requests ++ asks ∷ []))
-        fit-at out = subst (λ (c : GroupCut). AllByRecursion GroupFits (described rules place start c.closed)) (sym (cut-more first now serving.requests serving.given known known' serving.goes (asks ∷ [])))
-            ((broke.handled out).closes rules place start whole serving.given serving.goes.closes).fit
+        fit-at : stop ≡ OutputFault → AllByRecursion GroupFits (closed_groups (rules_of first.session) (spot_of first) (state_now first.session) (serving.requests ++ asks ∷ []))
+        fit-at out = subst (λ (c : GroupCut). AllByRecursion GroupFits (described rules spot start c.closed)) (sym (cut-more first now serving.requests serving.given known known' serving.goes (asks ∷ [])))
+            ((broke.handled out).closes rules spot start whole serving.given serving.goes.closes).fit
 
-        save-at : stop ≡ OutputFault → asks ≡ request.Save → SaveFits (rules_of first.session) first.log.gate.place (state_now first.session) serving.requests
+        save-at : stop ≡ OutputFault → asks ≡ request.Save → SaveFits (rules_of first.session) (spot_of first) (state_now first.session) serving.requests
         save-at out is =
             let handled : WasHandled request.Save broke.more now new = subst (λ (r : Request). WasHandled r broke.more now new) is (broke.handled out) in
-            save-room first now serving.requests serving.given known known' serving.goes broke.more new handled.closes (handled.saves refl)
+            save-room first now serving.requests serving.given known known' serving.goes (handled.saves refl)
 
-        saves-fit : SavesFit {A = Unit {0}} (rules_of first.session) first.log.gate.place (state_now first.session) (serving.requests ++ asks ∷ []) (Err stop)
+        saves-fit : SavesFit {A = Unit {0}} (rules_of first.session) (spot_of first) (state_now first.session) (serving.requests ++ asks ∷ []) (Err stop)
         saves-fit before rest same handled = by (data-free serving.requests before rest asks request.Save same)
           where
-            by : ((before ≡ serving.requests) × (asks ≡ request.Save) × (rest ≡ [])) ⊎ ((others : List Request) × (serving.requests ≡ before ++ request.Save ∷ others)) → SaveFits rules place start before
-            by (inl here) = subst (λ (l : List Request). SaveFits rules place start l) (sym here.0) (save-at (output-stop stop (handled here.2) at long-at) here.1)
+            by : ((before ≡ serving.requests) × (asks ≡ request.Save) × (rest ≡ [])) ⊎ ((others : List Request) × (serving.requests ≡ before ++ request.Save ∷ others)) → SaveFits rules spot start before
+            by (inl here) = subst (λ (l : List Request). SaveFits rules spot start l) (sym here.0) (save-at (worked-stop stop (handled here.2) at long-at) here.1)
             by (inr earlier) = serving.goes.saves before earlier.0 earlier.1
 
         -- of a device that failed: the log ends where it ended, or after the group that the last request closes
-        torn-here : stop ≡ DiskFault → IsTorn (rules_of first.session) first.log.gate.place (state_now first.session) serving.requests (serving.requests ++ asks ∷ []) known''
+        torn-here : stop ≡ DiskFault → IsTorn (rules_of first.session) (spot_of first) (state_now first.session) serving.requests (serving.requests ++ asks ∷ []) known''
         torn-here is =
             let torn = broke.torn is middle whole.rest serving.goes.closes.within in
             record {
@@ -282,12 +284,8 @@ module _ (first now : EngineParts) (left mid : Option (List ℕ)) (reader : Read
               next = torn.next;
               ended = gate-reached first now serving.requests serving.given known known' serving.goes;
               ends = gate-more first now serving.requests serving.given known known' serving.goes asks torn.next torn.after;
-              either = torn.either;
+              either = record { newest = newest_of now.slots; stays = broke.newest; log = torn.either };
             }
-
-        durable-by : (stop ≡ OutputFault) ⊎ ((bytes : ℕ) × (stop ≡ TooLarge bytes)) → EndsGroups (rules_of first.session) first.log.gate.place (state_now first.session) (serving.requests ++ asks ∷ []) new.log.gate
-        durable-by (inl out) = durable-at out
-        durable-by (inr large) = durable-large large.0 large.1
 
   -- a stop was answered
   pub stop-served : (left' held'' : Option (List ℕ)) (known'' : Devices (Option DiskHistory)) (new : EngineParts) (faulted : Type 0) (lines : List (List ℕ)) (ahead : List ℕ) → WereHandled left lines ahead left' → TookAtMost MAX_INPUT left left' → length ahead < MAX_READ
@@ -299,7 +297,7 @@ module _ (first now : EngineParts) (left mid : Option (List ℕ)) (reader : Read
       let given = serving.given ++ replied.more in
       let out = texts catalogue serving.given ++ texts catalogue replied.more in
       let written : out ≡ texts catalogue given = sym (texts-both catalogue serving.given replied.more) in
-      let answers : given ≡ replies rules start requests = all-replied rules place start serving.requests given new goes.closes (stop-closes rules start serving.requests) in
+      let answers : given ≡ replies rules start requests = all-replied rules spot start serving.requests given new goes.closes (stop-closes rules start serving.requests) in
       record {
         lines = lines;
         ahead = ahead;
@@ -323,11 +321,12 @@ module _ (first now : EngineParts) (left mid : Option (List ℕ)) (reader : Read
         firsts = record { rest = []; split = sym answers ∙ sym (append-nil given) };
         ending = record { before = serving.requests; stops = refl; replied = answers; written = written; fit = goes.closes.fit };
         durable = λ worked. gate-reached first new requests given known known'' goes;
+        large = λ bytes is. absurd (no-large bytes is);
         full = λ need is. absurd (no-full need is);
         torn = λ is. absurd (no-disk is);
         slots = goes.slots;
         still = goes.still;
-        fit = all-fit (closed_groups rules place start requests) given goes.closes.replied goes.closes.fit;
+        fit = all-fit (closed_groups rules spot start requests) given goes.closes.replied goes.closes.fit;
         saves = λ before rest same handled. goes.saves before rest same;
         there = tt;
       }
@@ -337,6 +336,9 @@ module _ (first now : EngineParts) (left mid : Option (List ℕ)) (reader : Read
 
       no-full : (need : ℕ) → ◌≡◌ {A = Result (Unit {0}) RunStop} (Ok tt) (Err (LogFull need)) → ⊥
       no-full need e = cc
+
+      no-large : (bytes : ℕ) → ◌≡◌ {A = Result (Unit {0}) RunStop} (Ok tt) (Err (TooLarge bytes)) → ⊥
+      no-large bytes e = cc
 
       no-input : ◌≡◌ {A = Result (Unit {0}) RunStop} (Ok tt) (Err InputFault) → ⊥
       no-input e = cc

@@ -1,9 +1,10 @@
 -- One line is served after others.
-use Rattle.std.proofs.Common.{◌≡◌, ◌∙◌, ◌⊎◌, inl, inr, ℕ, ◌<◌, ◌≤◌, List, [], ◌∷◌, ◌++◌, length, Option, refl, sym, ap, ap₂, subst, arith}
+use Rattle.std.proofs.Common.{◌≡◌, ◌∙◌, ◌⊎◌, inl, inr, ℕ, ◌<◌, ◌≤◌, true, List, [], ◌∷◌, ◌++◌, length, Option, refl, sym, ap, ap₂, subst, arith}
 use Rattle.std.specs.List.{AllByRecursion, fold}
 use Rattle.std.proofs.lemmas.List.{append-nil}
 use Rattle.std.proofs.lemmas.List.Sums.{fold-append}
 use Rattle.pac_ops.specs.declared.transaction.Txn.{Txn}
+use Rattle.pac_outside.specs.Devices.{WhileAllKnown}
 use Rattle.pac_outside.specs.Disk.{DiskHistory}
 use Rattle.pac_outside.specs.declared.devices.Devices.{Devices}
 use Rattle.pac_log.specs.declared.position.NextGate.{NextGate}
@@ -13,17 +14,17 @@ use Rattle.pac_request.specs.declared.request.Request.TheVariants as request
 use Rattle.pac_request.specs.declared.request.Reply.{Reply}
 use Rattle.pac_request.specs.declared.request.Reply.TheVariants as reply
 use Rattle.pac_session.specs.Session.{Rules, SessionState, committed, ends}
-use Rattle.pac_session.specs.Groups.{GroupCut, all_requests, cut, cut_on, cut_one, place_after_group}
+use Rattle.pac_session.specs.Groups.{GroupCut, all_requests, LogSpot, cut, cut_on, cut_one, saves_anew}
 use Rattle.pac_session.specs.Open.{rules_of, state_now}
 use Rattle.pac_session.proofs.SessionLemmas.{committed-append, ends-append}
 use Rattle.pac_session.proofs.CutLemmas.{whole-cut}
 use Rattle.pac_engine.specs.declared.parts.EngineParts.{EngineParts}
-use Rattle.pac_engine.specs.Closing.{Closes, IsGateAfter, IsKept, place_after, slot_len}
-use Rattle.pac_engine.specs.Standing.{OnlyGrows, KeepsHistory, StandsOn, WhileAllKnown, durable_of, saved_of}
-use Rattle.pac_engine.proofs.LawLemmas.{begins, gate-then, history-then, stands-then}
+use Rattle.pac_engine.specs.Closing.{Closes, IsGateUnsaved, IsKept, slot_len}
+use Rattle.pac_engine.specs.Standing.{OnlyGrows, KeepsHistory, StandsOn, durable_of, saved_of, spot_of}
+use Rattle.pac_engine.proofs.LawLemmas.{begins, history-then, stands-then, unsaved-then}
 use Rattle.pac_engine.proofs.KnownLemmas.{refused-keeps}
 use Rattle.pac_run.specs.Serving.{Answered, GoesFrom, KeepsEach, StandsForEach}
-use Rattle.pac_run.specs.Stopping.{EndsGroups, SaveFits, closed_groups}
+use Rattle.pac_run.specs.Stopping.{EndsGroups, EndsUnsaved, SaveFits}
 use Rattle.pac_run.specs.Texts.{IsPlain}
 
 -- ---- lists
@@ -38,7 +39,7 @@ kept-one old new grows (reply.Aborted op reason) is = tt
 kept-one old new grows (reply.AbortedFull table) is = tt
 kept-one old new grows (reply.Shown table key row) is = tt
 kept-one old new grows (reply.Refused fault) is = tt
-kept-one old new grows (reply.Saved txns) is = let k : txns < saved_of old = is in omega (arith, k, grows.saved)
+kept-one old new grows (reply.Saved txns) is = λ few. let k : txns < saved_of old = is few in omega (arith, k, grows.saved)
 
 pub kept-grows : (old new : EngineParts) → OnlyGrows old new → (given : List Reply) → AllByRecursion (IsKept old) given → AllByRecursion (IsKept new) given
 kept-grows old new grows [] kept = tt
@@ -112,8 +113,8 @@ module _ (first now : EngineParts) (requests : List Request) (given : List Reply
   abbrev start : SessionState
   start = state_now first.session
 
-  abbrev place : ℕ
-  place = first.log.gate.place
+  abbrev spot : LogSpot
+  spot = spot_of first
 
   abbrev whole : GroupCut
   whole = cut (rules_of first.session) (state_now first.session) requests
@@ -131,30 +132,21 @@ module _ (first now : EngineParts) (requests : List Request) (given : List Reply
   cut-more asked = fold-append (cut_on rules start) (record { closed = []; rest = [] }) requests asked
 
   -- the log's gate stands after the groups that were closed, and after those of one request more
-  pub gate-reached : EndsGroups (rules_of first.session) first.log.gate.place (state_now first.session) requests now.log.gate
-  gate-reached = record { counted = goes.durable ∙ sym goes.closes.within.begun; there = goes.closes.there }
+  pub gate-reached : EndsGroups (rules_of first.session) (spot_of first) (state_now first.session) requests now.log.gate
+  gate-reached = record { counted = goes.durable ∙ sym goes.closes.within.begun; there = ap (λ (s : LogSpot). s.place) goes.closes.there }
 
   pub gate-more : (asked : Request) (gate : NextGate)
-      → IsGateAfter (rules_of now.session) now.log.gate.place (ends (rules_of first.session) (state_now first.session) (all_requests (cut (rules_of first.session) (state_now first.session) requests).closed)) (cut_one (rules_of now.session) (ends (rules_of first.session) (state_now first.session) (all_requests (cut (rules_of first.session) (state_now first.session) requests).closed)) (cut (rules_of first.session) (state_now first.session) requests).rest asked).closed gate
-      → EndsGroups (rules_of first.session) first.log.gate.place (state_now first.session) (requests ++ asked ∷ []) gate
+      → IsGateUnsaved (rules_of now.session) (spot_of now) (ends (rules_of first.session) (state_now first.session) (all_requests (cut (rules_of first.session) (state_now first.session) requests).closed)) (cut_one (rules_of now.session) (ends (rules_of first.session) (state_now first.session) (all_requests (cut (rules_of first.session) (state_now first.session) requests).closed)) (cut (rules_of first.session) (state_now first.session) requests).rest asked).closed gate
+      → EndsUnsaved (rules_of first.session) (spot_of first) (state_now first.session) (requests ++ asked ∷ []) gate
   gate-more asked gate after =
-      let here : IsGateAfter rules now.log.gate.place middle (cut_one rules middle whole.rest asked).closed gate = subst (λ (r : Rules). IsGateAfter r now.log.gate.place middle (cut_one r middle whole.rest asked).closed gate) goes.closes.same after in
-      subst (λ (c : GroupCut). IsGateAfter rules place start c.closed gate) (sym (cut-more (asked ∷ []))) (gate-then rules place start whole given now goes.closes (cut_one rules middle whole.rest asked).closed gate here)
+      let here : IsGateUnsaved rules (spot_of now) middle (cut_one rules middle whole.rest asked).closed gate = subst (λ (r : Rules). IsGateUnsaved r (spot_of now) middle (cut_one r middle whole.rest asked).closed gate) goes.closes.same after in
+      subst (λ (c : GroupCut). IsGateUnsaved rules spot start c.closed gate) (sym (cut-more (asked ∷ []))) (unsaved-then rules spot start whole given now goes.closes (cut_one rules middle whole.rest asked).closed gate here)
 
-  -- a save that was handled had room
-  pub save-room : (more : List Reply) (new : EngineParts) → ((rules : Rules) (place : ℕ) (start : SessionState) (whole : GroupCut) (given : List Reply) → Closes rules place start whole given now → Closes rules place start (cut_on rules start whole request.Save) (given ++ more) new)
-      → slot_len (rules_of now.session) (state_now now.session) (place_after_group now.log.gate.place now.session.txns) ≤ MAX_SLOT_LEN → SaveFits (rules_of first.session) first.log.gate.place (state_now first.session) requests
-  save-room more new closes fits =
-      let alone : Closes rules now.log.gate.place middle (record { closed = []; rest = whole.rest }) [] now = record { replied = refl; fit = tt; there = refl; same = goes.closes.same; within = goes.closes.within } in
-      let one = closes rules now.log.gate.place middle (record { closed = []; rest = whole.rest }) [] alone in
-      let all : Closes rules place start (cut rules start (requests ++ request.Save ∷ [])) (given ++ more) new = subst (λ (c : GroupCut). Closes rules place start c (given ++ more) new) (sym (cut-more (request.Save ∷ []))) (closes rules place start whole given goes.closes) in
-      let txns : committed rules middle (whole.rest ++ request.Save ∷ []) ≡ now.session.txns
-      = committed-append rules middle whole.rest (request.Save ∷ []) ∙ append-nil (committed rules middle whole.rest) ∙ ap (λ (r : Rules). committed r middle whole.rest) (sym goes.closes.same) ∙ sym goes.closes.within.body in
-      let there : place_after_group now.log.gate.place now.session.txns ≡ place_after place (closed_groups rules place start (requests ++ request.Save ∷ []))
-      = ap (place_after_group now.log.gate.place) (sym txns) ∙ sym one.there ∙ all.there in
-      let room : slot_len rules (ends rules start requests) (place_after_group now.log.gate.place now.session.txns) ≤ MAX_SLOT_LEN
-      = subst (λ (s : SessionState). slot_len rules s (place_after_group now.log.gate.place now.session.txns) ≤ MAX_SLOT_LEN) reached (subst (λ (r : Rules). slot_len r (state_now now.session) (place_after_group now.log.gate.place now.session.txns) ≤ MAX_SLOT_LEN) goes.closes.same fits) in
-      subst (λ (p : ℕ). slot_len rules (ends rules start requests) p ≤ MAX_SLOT_LEN) there room
+  -- a save that was handled had room, where it wrote
+  pub save-room : (saves_anew (saved_of now) (state_now now.session).number ≡ true → slot_len (rules_of now.session) (state_now now.session) ≤ MAX_SLOT_LEN) → SaveFits (rules_of first.session) (spot_of first) (state_now first.session) requests
+  save-room fits anew =
+      let here : saves_anew (saved_of now) (state_now now.session).number ≡ true = ap₂ (λ (s : LogSpot) (state : SessionState). saves_anew s.reach state.number) goes.closes.there reached ∙ anew in
+      subst (λ (s : SessionState). slot_len rules s ≤ MAX_SLOT_LEN) reached (subst (λ (r : Rules). slot_len r (state_now now.session) ≤ MAX_SLOT_LEN) goes.closes.same (fits here))
 
   module _ (new : EngineParts) (known'' : Devices (Option DiskHistory)) where
     pub keeps-more : (asked : List Request) → KeepsEach (committed (rules_of now.session) (state_now now.session) asked) now new known' known''
@@ -168,23 +160,23 @@ module _ (first now : EngineParts) (requests : List Request) (given : List Reply
         (stands-then text history (committed rules start requests) (committed (rules_of now.session) (state_now now.session) asked) first now new known known' known'' (goes.stands text history) (stands text (history ++ committed rules start requests)))
 
     module _ (asked : List Request) (more : List Reply) (answered : Answered asked more now new known' known'') where
-      closes-more : Closes (rules_of first.session) first.log.gate.place (state_now first.session) (cut (rules_of first.session) (state_now first.session) (requests ++ asked)) (given ++ more) new
-      closes-more = subst (λ (c : GroupCut). Closes rules place start c (given ++ more) new) (sym (cut-more asked)) (answered.closes rules place start whole given goes.closes)
+      closes-more : Closes (rules_of first.session) (spot_of first) (state_now first.session) (cut (rules_of first.session) (state_now first.session) (requests ++ asked)) (given ++ more) new
+      closes-more = subst (λ (c : GroupCut). Closes rules spot start c (given ++ more) new) (sym (cut-more asked)) (answered.closes rules spot start whole given goes.closes)
 
       -- a save that was answered had room
-      save-fits : asked ≡ request.Save ∷ [] → SaveFits (rules_of first.session) first.log.gate.place (state_now first.session) requests
+      save-fits : asked ≡ request.Save ∷ [] → SaveFits (rules_of first.session) (spot_of first) (state_now first.session) requests
       save-fits is =
           let saves : Answered (request.Save ∷ []) more now new known' known'' = subst (λ (l : List Request). Answered l more now new known' known'') is answered in
-          save-room more new saves.closes (saves.saves refl)
+          save-room (saves.saves refl)
 
-      saves-more : (before rest : List Request) → requests ++ asked ≡ before ++ request.Save ∷ rest → SaveFits (rules_of first.session) first.log.gate.place (state_now first.session) before
+      saves-more : (before rest : List Request) → requests ++ asked ≡ before ++ request.Save ∷ rest → SaveFits (rules_of first.session) (spot_of first) (state_now first.session) before
       saves-more before rest same = by asked refl
         where
-          one : (asks : Request) → asked ≡ asks ∷ [] → ((before ≡ requests) × (asks ≡ request.Save) × (rest ≡ [])) ⊎ ((others : List Request) × (requests ≡ before ++ request.Save ∷ others)) → SaveFits rules place start before
-          one asks is (inl at) = subst (λ (l : List Request). SaveFits rules place start l) (sym at.0) (save-fits (is ∙ ap (λ (r : Request). r ∷ []) at.1))
+          one : (asks : Request) → asked ≡ asks ∷ [] → ((before ≡ requests) × (asks ≡ request.Save) × (rest ≡ [])) ⊎ ((others : List Request) × (requests ≡ before ++ request.Save ∷ others)) → SaveFits rules spot start before
+          one asks is (inl at) = subst (λ (l : List Request). SaveFits rules spot start l) (sym at.0) (save-fits (is ∙ ap (λ (r : Request). r ∷ []) at.1))
           one asks is (inr at) = goes.saves before at.0 at.1
 
-          by : (list : List Request) → asked ≡ list → SaveFits rules place start before
+          by : (list : List Request) → asked ≡ list → SaveFits rules spot start before
           by [] is = goes.saves before rest (sym (append-nil requests) ∙ ap (λ (l : List Request). requests ++ l) (sym is) ∙ same)
           by (asks ∷ []) is = one asks is (data-free requests before rest asks request.Save (ap (λ (l : List Request). requests ++ l) (sym is) ∙ same))
           by (asks ∷ next ∷ others) is = absurd (omega (arith, answered.few, ap (λ (l : List Request). length l) is))

@@ -1,16 +1,16 @@
 -- What an engine is that begins over a store.
 use Rattle.std.specs.Prelude.{◌≡◌, ◌≤◌, ℕ, false, List, [], length, take}
 use Rattle.pac_ops.specs.declared.transaction.Txn.{Txn}
-use Rattle.pac_outside.specs.Devices.{AllLeave}
+use Rattle.pac_outside.specs.Devices.{AllLeave, log_at}
 use Rattle.pac_outside.specs.Disk.{DiskHistory}
 use Rattle.pac_outside.specs.declared.devices.Devices.{Devices}
 use Rattle.pac_types.specs.Typing.{CatalogueState}
-use Rattle.pac_log.specs.declared.header.Header.{Header}
 use Rattle.pac_log.specs.Logs.{HoldsLog}
 use Rattle.pac_log.specs.Places.{IsAfter}
+use Rattle.pac_check.specs.SlotStates.{active_of, IsSlot}
 use Rattle.pac_store.specs.Images.{Images}
 use Rattle.pac_store.specs.Stands.{StandsFor}
-use Rattle.pac_recover.specs.Recovering.{IsRecoveredFrom}
+use Rattle.pac_restore.specs.Restoring.{IsRecoveredFrom}
 use Rattle.pac_engine.specs.declared.parts.EngineParts.{EngineParts}
 use Rattle.pac_engine.specs.Standing.{StandsOn, durable_of}
 
@@ -23,14 +23,15 @@ pub record IsFresh (batch limit : ℕ) (engine : EngineParts) : Type 0 where
   pub before : engine.session.before ≡ durable_of engine
   pub goes_on : engine.ended ≡ false
 
--- What is stored in these images is executed to the end: the engine has the tables after it, and as many transactions. Its
--- log goes on at the gate after the batches that are stored.
+-- What is stored in these images is executed to the end: the engine has the tables after it, and as many transactions. It knows the
+-- states of both slots, and its log goes on at the gate after the batches of the segment that is active by them.
 pub record IsOpenedFrom (engine : EngineParts) (images : Images) : Type 0 where
   pub recovered : IsRecoveredFrom engine.session.catalogue engine.session.tables (durable_of engine) images
-  pub header : Header
+  pub is_a : IsSlot engine.session.catalogue.tables engine.slots.a images.slot_a
+  pub is_b : IsSlot engine.session.catalogue.tables engine.slots.b images.slot_b
   pub batches : List (List Txn)
-  pub log : HoldsLog header engine.session.catalogue batches images.log
-  pub after : IsAfter header batches engine.log.gate
+  pub log : HoldsLog engine.log.gate.header engine.session.catalogue batches (log_at (active_of engine.slots) images)
+  pub after : IsAfter engine.log.gate.header batches engine.log.gate
 
 -- each image that a crash may leave stands for the history
 abbrev pub AllStand : List ℕ → CatalogueState → List Txn → ℕ → Devices DiskHistory → Type 0

@@ -4,6 +4,7 @@ use Rattle.std.specs.Io.KnownBytes.{prepend_known}
 use Rattle.std.specs.List.{AllByRecursion, fold}
 use Rattle.pac_ops.specs.declared.transaction.Txn.{Txn}
 use Rattle.pac_outside.specs.Content.{Gave, Took}
+use Rattle.pac_outside.specs.Devices.{WhileAllKnown}
 use Rattle.pac_outside.specs.Disk.{DiskHistory}
 use Rattle.pac_outside.specs.declared.devices.Devices.{Devices}
 use Rattle.pac_outside.specs.Parts.{slots_of}
@@ -16,18 +17,19 @@ use Rattle.pac_request.specs.declared.request.Request.{Request}
 use Rattle.pac_request.specs.declared.request.Request.TheVariants as request
 use Rattle.pac_request.specs.declared.request.Reply.{Reply}
 use Rattle.pac_session.specs.Session.{Rules, SessionState, committed, replies}
-use Rattle.pac_session.specs.Groups.{GroupCut, cut, cut_on, cut_one, place_after_group}
+use Rattle.pac_session.specs.Groups.{GroupCut, LogSpot, cut, cut_on, cut_one, saves_anew}
 use Rattle.pac_session.specs.Open.{IsInGroup, Open, rules_of, state_now}
 use Rattle.pac_check.specs.declared.limits.TheConstants.{MAX_SLOT_LEN}
+use Rattle.pac_check.specs.SlotStates.{active_of, newest_of}
 use Rattle.pac_engine.specs.declared.parts.EngineParts.{EngineParts}
 use Rattle.pac_engine.specs.Closing.{Closes, GivesFitting, GroupFits, IsKept, MayEndAfter, slot_len}
 use Rattle.pac_engine.specs.Committing.{gate_past}
-use Rattle.pac_engine.specs.Standing.{OnlyGrows, KeepsHistory, StandsOn, WhileAllKnown, durable_of}
+use Rattle.pac_engine.specs.Standing.{OnlyGrows, KeepsHistory, StandsOn, durable_of, saved_of, spot_of}
 use Rattle.pac_run.specs.declared.limits.TheConstants.{MAX_INPUT}
 use Rattle.pac_run.specs.declared.stop.RunStop.{RunStop}
 use Rattle.pac_run.specs.declared.stop.RunStop.TheVariants.{Opening, InputFault, OutputFault, DiskFault, NoMemory, LogFull, TooLong, TooLarge}
 use Rattle.pac_run.specs.Asked.{WereAsked, IsOverLong, LineAsks, LinesAsk, NoSave, NoStop, StopsLast, TookAtMost, WereHandled}
-use Rattle.pac_run.specs.Stopping.{AreFirst, BeforeLast, EndsGroups, HasWorked, IsStoppedAt, IsTorn, SaveFits, SavesFit, StepStops, StopsThere, closed_groups}
+use Rattle.pac_run.specs.Stopping.{AreFirst, BeforeLast, EndsGroups, EndsUnsaved, HasWorked, IsStoppedAt, IsTorn, NewestStays, SaveFits, SavesFit, StepStops, StopsThere, closed_groups}
 use Rattle.pac_run.specs.Texts.{IsTextPrefix, IsPlain, texts}
 
 -- ---- one line
@@ -42,8 +44,8 @@ StandsForEach more old new histories histories' = (text : List ℕ) (history : L
 
 -- Requests were answered, of one line and so at most one, with these replies.
 pub record Answered (asked : List Request) (more : List Reply) (old new : EngineParts) (histories histories' : Devices (Option DiskHistory)) : Type 0 where
-  pub closes : (rules : Rules) (place : ℕ) (start : SessionState) (whole : GroupCut) (given : List Reply) → Closes rules place start whole given old
-      → Closes rules place start (fold (cut_on rules start) whole asked) (given ++ more) new
+  pub closes : (rules : Rules) (spot : LogSpot) (start : SessionState) (whole : GroupCut) (given : List Reply) → Closes rules spot start whole given old
+      → Closes rules spot start (fold (cut_on rules start) whole asked) (given ++ more) new
   pub keeps : KeepsEach (committed (rules_of old.session) (state_now old.session) asked) old new histories histories'
   pub stands : StandsForEach (committed (rules_of old.session) (state_now old.session) asked) old new histories histories'
   pub same : rules_of new.session ≡ rules_of old.session
@@ -51,7 +53,7 @@ pub record Answered (asked : List Request) (more : List Reply) (old new : Engine
   pub kept : AllByRecursion (IsKept new) more
   pub plain : AllByRecursion IsPlain more
   pub few : length asked ≤ 1
-  pub saves : asked ≡ request.Save ∷ [] → slot_len (rules_of old.session) (state_now old.session) (place_after_group old.log.gate.place old.session.txns) ≤ MAX_SLOT_LEN
+  pub saves : asked ≡ request.Save ∷ [] → saves_anew (saved_of old) (state_now old.session).number ≡ true → slot_len (rules_of old.session) (state_now old.session) ≤ MAX_SLOT_LEN
   pub durable : durable_of old ≡ old.session.before → durable_of new ≡ new.session.before
   pub slots : NoSave asked → slots_of histories' ≡ slots_of histories
   pub still : asked ≡ [] → histories' ≡ histories
@@ -64,9 +66,9 @@ pub record Replied (catalogue : CatalogueState) (asked : List Request) (old new 
 
 -- a request was handled, and the groups that it closes were, though their replies could not be written; a save had room
 pub record WasHandled (asked : Request) (more : List Reply) (old new : EngineParts) : Type 0 where
-  pub closes : (rules : Rules) (place : ℕ) (start : SessionState) (whole : GroupCut) (given : List Reply) → Closes rules place start whole given old
-      → Closes rules place start (cut_on rules start whole asked) (given ++ more) new
-  pub saves : asked ≡ request.Save → slot_len (rules_of old.session) (state_now old.session) (place_after_group old.log.gate.place old.session.txns) ≤ MAX_SLOT_LEN
+  pub closes : (rules : Rules) (spot : LogSpot) (start : SessionState) (whole : GroupCut) (given : List Reply) → Closes rules spot start whole given old
+      → Closes rules spot start (cut_on rules start whole asked) (given ++ more) new
+  pub saves : asked ≡ request.Save → saves_anew (saved_of old) (state_now old.session).number ≡ true → slot_len (rules_of old.session) (state_now old.session) ≤ MAX_SLOT_LEN
   pub durable : durable_of new ≡ new.session.before
 
 -- what a save may give out of the open group before a device fails; of another request nothing is said
@@ -92,7 +94,7 @@ pub record Broke (catalogue : CatalogueState) (asked : Request) (old new : Engin
   pub prefix : IsTextPrefix out (texts catalogue more)
   pub whole : (out ≡ texts catalogue more) ⊎ faulted
   pub stops : (start : SessionState) (group : List Request) → IsInGroup start group old.session
-      → StepStops (rules_of old.session) old.log.gate.place start (cut_one (rules_of old.session) start group asked).closed more stop
+      → StepStops (rules_of old.session) (spot_of old) start (cut_one (rules_of old.session) start group asked).closed more stop
   pub keeps : KeepsEach (committed (rules_of old.session) (state_now old.session) (asked ∷ [])) old new histories histories'
   pub grows : OnlyGrows old new
   pub kept : AllByRecursion (IsKept new) more
@@ -100,8 +102,9 @@ pub record Broke (catalogue : CatalogueState) (asked : Request) (old new : Engin
   pub handled : stop ≡ OutputFault → WasHandled asked more old new
   pub room : KeepsGate asked old new stop
   pub slots : (asked ≡ request.Save → ⊥) → slots_of histories' ≡ slots_of histories
+  pub newest : NewestStays (newest_of old.slots) histories'
   pub torn : stop ≡ DiskFault → (start : SessionState) (group : List Request) → IsInGroup start group old.session
-      → MayEndAfter (rules_of old.session) start (cut_one (rules_of old.session) start group asked).closed old.log.gate histories'
+      → MayEndAfter (active_of old.slots) (rules_of old.session) (spot_of old) start (cut_one (rules_of old.session) start group asked).closed old.log.gate histories'
 
 -- all is as it was: there was no memory to know what the line asks
 pub record IsUntouched (old new : EngineParts) (held held' : Option (List ℕ)) (histories histories' : Devices (Option DiskHistory)) (stop : RunStop) : Type 0 where
@@ -131,13 +134,13 @@ pub record LineServed (catalogue : CatalogueState) (line : List ℕ) (stops : Bo
 
 -- An engine that began so has served these requests, and has given these replies.
 pub record GoesFrom (first now : EngineParts) (requests : List Request) (given : List Reply) (histories histories' : Devices (Option DiskHistory)) : Type 0 where
-  pub closes : Closes (rules_of first.session) first.log.gate.place (state_now first.session) (cut (rules_of first.session) (state_now first.session) requests) given now
+  pub closes : Closes (rules_of first.session) (spot_of first) (state_now first.session) (cut (rules_of first.session) (state_now first.session) requests) given now
   pub keeps : KeepsEach (committed (rules_of first.session) (state_now first.session) requests) first now histories histories'
   pub stands : StandsForEach (committed (rules_of first.session) (state_now first.session) requests) first now histories histories'
   pub grows : OnlyGrows first now
   pub kept : AllByRecursion (IsKept now) given
   pub plain : AllByRecursion IsPlain given
-  pub saves : (before rest : List Request) → requests ≡ before ++ request.Save ∷ rest → SaveFits (rules_of first.session) first.log.gate.place (state_now first.session) before
+  pub saves : (before rest : List Request) → requests ≡ before ++ request.Save ∷ rest → SaveFits (rules_of first.session) (spot_of first) (state_now first.session) before
   pub durable : durable_of now ≡ now.session.before
   pub slots : NoSave requests → slots_of histories' ≡ slots_of histories
   pub still : requests ≡ [] → histories' ≡ histories
@@ -164,12 +167,12 @@ pub record Serving (first now : EngineParts) (left left' : Option (List ℕ)) (r
   pub goes : GoesFrom first now requests given histories histories'
 
 -- all was done: the last request is a stop, all replies were written, and each group has room
-pub record IsDone (rules : Rules) (place : ℕ) (start : SessionState) (requests : List Request) (given : List Reply) (out : List ℕ) : Type 0 where
+pub record IsDone (rules : Rules) (spot : LogSpot) (start : SessionState) (requests : List Request) (given : List Reply) (out : List ℕ) : Type 0 where
   pub before : List Request
   pub stops : requests ≡ before ++ request.Stop ∷ []
   pub replied : given ≡ replies rules start requests
   pub written : out ≡ texts rules.catalogue given
-  pub fit : AllByRecursion GroupFits (closed_groups rules place start requests)
+  pub fit : AllByRecursion GroupFits (closed_groups rules spot start requests)
 
 -- What was served, whatever the end.
 pub record Served (first now : EngineParts) (left left' held held' : Option (List ℕ)) (histories histories' : Devices (Option DiskHistory)) (faulted : Type 0) (result : Result (Unit {0}) RunStop) : Type 0 where
@@ -193,12 +196,13 @@ pub record Served (first now : EngineParts) (left left' held held' : Option (Lis
   pub kept : AllByRecursion (IsKept now) given
   pub plain : AllByRecursion IsPlain given
   pub firsts : AreFirst given (replies (rules_of first.session) (state_now first.session) requests)
-  pub durable : HasWorked result → EndsGroups (rules_of first.session) first.log.gate.place (state_now first.session) requests now.log.gate
-  pub full : (need : ℕ) → IsErrOf result (LogFull need) → BeforeLast (λ before. EndsGroups (rules_of first.session) first.log.gate.place (state_now first.session) before now.log.gate) requests
-  pub torn : IsErrOf result DiskFault → BeforeLast (λ before. IsTorn (rules_of first.session) first.log.gate.place (state_now first.session) before requests histories') requests
+  pub durable : HasWorked result → EndsGroups (rules_of first.session) (spot_of first) (state_now first.session) requests now.log.gate
+  pub large : (bytes : ℕ) → IsErrOf result (TooLarge bytes) → EndsUnsaved (rules_of first.session) (spot_of first) (state_now first.session) requests now.log.gate
+  pub full : (need : ℕ) → IsErrOf result (LogFull need) → BeforeLast (λ before. EndsGroups (rules_of first.session) (spot_of first) (state_now first.session) before now.log.gate) requests
+  pub torn : IsErrOf result DiskFault → BeforeLast (λ before. IsTorn (rules_of first.session) (spot_of first) (state_now first.session) before requests histories') requests
   pub slots : NoSave requests → slots_of histories' ≡ slots_of histories
   pub still : requests ≡ [] → histories' ≡ histories
-  pub fit : GivesFitting (closed_groups (rules_of first.session) first.log.gate.place (state_now first.session) requests) given
-  pub saves : SavesFit (rules_of first.session) first.log.gate.place (state_now first.session) requests result
-  pub there : IfErr result (λ stop. StopsThere (rules_of first.session) first.log.gate.place (state_now first.session) requests given out stop)
-  pub ending : MatchResult result (λ _. IsDone (rules_of first.session) first.log.gate.place (state_now first.session) requests given out) (λ stop. IsStoppedAt (rules_of first.session) first.log.gate.place (state_now first.session) requests given stop)
+  pub fit : GivesFitting (closed_groups (rules_of first.session) (spot_of first) (state_now first.session) requests) given
+  pub saves : SavesFit (rules_of first.session) (spot_of first) (state_now first.session) requests result
+  pub there : IfErr result (λ stop. StopsThere (rules_of first.session) (spot_of first) (state_now first.session) requests given out stop)
+  pub ending : MatchResult result (λ _. IsDone (rules_of first.session) (spot_of first) (state_now first.session) requests given out) (λ stop. IsStoppedAt (rules_of first.session) (spot_of first) (state_now first.session) requests given stop)

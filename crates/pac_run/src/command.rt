@@ -5,8 +5,8 @@ ghost use Rattle.pac_ops.specs.declared.limits.TheConstants.{MAX_TXNS};
 ghost use Rattle.pac_outside.specs.Causes.{Faulted};
 ghost use Rattle.pac_outside.specs.Devices.{AreSettled, IfAllKnown, OneFaulted, each};
 ghost use Rattle.pac_check.specs.declared.limits.TheConstants.{MAX_SAVED_ROWS};
-ghost use Rattle.pac_recover.specs.declared.errors.RecoverError.{RecoverError as ARecoverError};
-ghost use Rattle.pac_recover.specs.Refusals.{AreRefused};
+ghost use Rattle.pac_restore.specs.declared.errors.RecoverError.{RecoverError as ARecoverError};
+ghost use Rattle.pac_restore.specs.Restoring.{AreRefused};
 ghost use Rattle.pac_run.specs.Run.{IsRun};
 ghost use Rattle.pac_run.specs.Stopping.{DeviceFailed, RefusesStore};
 

@@ -1,14 +1,14 @@
 // How a store is opened.
 ghost use Rattle.std.specs.Prelude.{◌≡◌, ◌≤◌, ℕ, List, None, length, IfErr, IfOk, IsErrOf};
 ghost use Rattle.pac_ops.specs.declared.limits.TheConstants.{MAX_TXNS};
-ghost use Rattle.pac_outside.specs.Devices.{AreSettled, OneFaulted, RunsAsBefore, IfAllKnown, each};
+ghost use Rattle.pac_outside.specs.Devices.{AreSettled, OneFaulted, RunsAsBefore, IfAllKnown, each, log_at};
 ghost use Rattle.pac_outside.specs.Disk.{IfKnown};
 ghost use Rattle.pac_outside.specs.Parts.{known_reads};
 ghost use Rattle.pac_check.specs.declared.limits.TheConstants.{MAX_SAVED_ROWS};
-ghost use Rattle.pac_check.specs.SlotStates.{IsSlot};
+ghost use Rattle.pac_check.specs.SlotStates.{active_of, IsSlot};
 ghost use Rattle.pac_store.specs.Images.{IfImagesKnown};
-ghost use Rattle.pac_recover.specs.Logs.{HoldsLogUpTo};
-ghost use Rattle.pac_recover.specs.Refusals.{AreRefused};
+ghost use Rattle.pac_restore.specs.Loading.{HoldsLogUpTo};
+ghost use Rattle.pac_restore.specs.Restoring.{AreRefused};
 ghost use Rattle.pac_types.specs.Execution.{first_over};
 ghost use Rattle.pac_engine.specs.Standing.{HasDevices};
 ghost use Rattle.pac_run.specs.Opening.{BeginsOver, IsFresh, IsOpenedFrom};
@@ -17,7 +17,7 @@ use crate::serially::Serially;
 use pac_engine::Engine;
 use pac_log::Log;
 use pac_outside::{Devices, Disk};
-use pac_recover::{LoadError, RecoverError, Restored, restore};
+use pac_restore::{LoadError, RecoverError, Restored, restore};
 use std::alloc::Global;
 
 // An engine over what is stored on devices, which are only read.
@@ -33,7 +33,7 @@ fn engine_over<D: Disk>(
     ensures opened { IfOk result (λ engine. IfImagesKnown (IsOpenedFrom engine) (each D.known devices.old)) }
     ensures fresh { IfOk result (IsFresh batch limit) }
     ensures within { IfOk result (λ engine. first_over limit (length engine.session.catalogue.tables) engine.session.tables ≡ None) }
-    ensures log { IfOk result (λ engine. IfKnown (λ old. HoldsLogUpTo engine.log.gate old.now.seen) (D.known devices.old.log)) }
+    ensures log { IfOk result (λ engine. IfKnown (λ old. HoldsLogUpTo engine.log.gate old.now.seen) (log_at (active_of engine.slots) (each D.known devices.old))) }
     ensures slot_a { IfOk result (λ engine. IfKnown (λ old. IsSlot engine.session.catalogue.tables engine.slots.a old.now.seen) (D.known devices.old.slot_a)) }
     ensures slot_b { IfOk result (λ engine. IfKnown (λ old. IsSlot engine.session.catalogue.tables engine.slots.b old.now.seen) (D.known devices.old.slot_b)) }
     ensures refused { IfErr result (AreRefused limit (each D.known devices.old)) }

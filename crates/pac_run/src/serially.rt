@@ -4,11 +4,11 @@ ghost use Rattle.std.specs.List.{AllByRecursion};
 ghost use Rattle.pac_types.specs.Execution.{serial};
 ghost use Rattle.pac_types.specs.Fits.{FitsCatalogue, TxnFits};
 ghost use Rattle.pac_types.specs.OperationLimits.{HasFewOperations};
-ghost use Rattle.pac_recover.specs.Outcomes.{FitsReplayed, outcome_of};
+ghost use Rattle.pac_restore.specs.Outcomes.{FitsReplayed, outcome_of};
 
 use pac_base::NoMemory;
 use pac_ops::Batch;
-use pac_recover::{Execution, Executor};
+use pac_restore::{Execution, Executor};
 use pac_serial::{AllError, exec_all};
 use pac_tables::{JoinedRows, TableRows};
 use pac_types::Catalogue;

@@ -126,6 +126,7 @@ fn answer<O: Sink, D: Disk>(
     ensures ready { OnOk result (HasDevices D.known engine.new devices.new) }
     ensures worked { HasWorked result → HasDevices D.known engine.new devices.new }
     ensures full { (need : ℕ) → IsErrOf result (RunStop.LogFull need) → HasDevices D.known engine.new devices.new }
+    ensures large { (bytes : ℕ) → IsErrOf result (RunStop.TooLarge bytes) → HasDevices D.known engine.new devices.new }
     ensures later { O.faults output.old ≤ O.faults output.new }
     ensures output_fault { IsErrOf result RunStop.OutputFault → Faulted (O.faults output.old) (O.faults output.new) }
     ensures disk_fault { IsErrOf result RunStop.DiskFault → OneFaulted (each D.faults devices.old) (each D.faults devices.new) }
@@ -166,6 +167,7 @@ fn serve_line<O: Sink, D: Disk>(
     ensures ready { OnOk result (HasDevices D.known engine.new devices.new) }
     ensures worked { HasWorked result → HasDevices D.known engine.new devices.new }
     ensures full { (need : ℕ) → IsErrOf result (RunStop.LogFull need) → HasDevices D.known engine.new devices.new }
+    ensures large { (bytes : ℕ) → IsErrOf result (RunStop.TooLarge bytes) → HasDevices D.known engine.new devices.new }
     ensures later { O.faults output.old ≤ O.faults output.new }
     ensures output_fault { IsErrOf result RunStop.OutputFault → Faulted (O.faults output.old) (O.faults output.new) }
     ensures disk_fault { IsErrOf result RunStop.DiskFault → OneFaulted (each D.faults devices.old) (each D.faults devices.new) }
@@ -199,6 +201,7 @@ fn serve_lines<I: Source, O: Sink, D: Disk>(
     ensures served { Served engine.old engine.new (I.left input.old) (I.left input.new) (O.held output.old) (O.held output.new) (each D.known devices.old) (each D.known devices.new) (Faulted (O.faults output.old) (O.faults output.new)) result }
     ensures worked { HasWorked result → HasDevices D.known engine.new devices.new }
     ensures full { (need : ℕ) → IsErrOf result (RunStop.LogFull need) → HasDevices D.known engine.new devices.new }
+    ensures large { (bytes : ℕ) → IsErrOf result (RunStop.TooLarge bytes) → HasDevices D.known engine.new devices.new }
     ensures input_fault { IsErrOf result RunStop.InputFault → Faulted (I.faults input.old) (I.faults input.new) }
     ensures output_fault { IsErrOf result RunStop.OutputFault → Faulted (O.faults output.old) (O.faults output.new) }
     ensures disk_fault { IsErrOf result RunStop.DiskFault → OneFaulted (each D.faults devices.old) (each D.faults devices.new) }
@@ -245,6 +248,7 @@ pub fn serve<I: Source, O: Sink, D: Disk>(
     ensures served { Served engine.old engine.new (I.left input.old) (I.left input.new) (O.held output.old) (O.held output.new) (each D.known devices.old) (each D.known devices.new) (Faulted (O.faults output.old) (O.faults output.new)) result }
     ensures worked { HasWorked result → HasDevices D.known engine.new devices.new }
     ensures full { (need : ℕ) → IsErrOf result (RunStop.LogFull need) → HasDevices D.known engine.new devices.new }
+    ensures large { (bytes : ℕ) → IsErrOf result (RunStop.TooLarge bytes) → HasDevices D.known engine.new devices.new }
     ensures input_fault { IsErrOf result RunStop.InputFault → Faulted (I.faults input.old) (I.faults input.new) }
     ensures output_fault { IsErrOf result RunStop.OutputFault → Faulted (O.faults output.old) (O.faults output.new) }
     ensures disk_fault { IsErrOf result RunStop.DiskFault → OneFaulted (each D.faults devices.old) (each D.faults devices.new) }

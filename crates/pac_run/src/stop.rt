@@ -7,7 +7,7 @@ ghost use Rattle.pac_run.specs.declared.stop.RunStop.TheVariants.{NoMemory as Ou
 use pac_base::NoMemory;
 use pac_engine::EngineCause;
 use pac_lines::LineError;
-use pac_recover::RecoverError;
+use pac_restore::RecoverError;
 use thiserror::Error;
 
 /// Why a run stops before its end.

@@ -6,7 +6,7 @@ use Rattle.std.proofs.lemmas.List.{append-nil}
 use Rattle.pac_request.specs.declared.request.Request.{Request}
 use Rattle.pac_request.specs.declared.request.Reply.{Reply}
 use Rattle.pac_session.specs.Session.{Rules, SessionState, txn_of, ends, replies, committed}
-use Rattle.pac_session.specs.Groups.{GroupCut, all_requests, is_closing, lacks_room, room_made, cut_with, cut_after, cut_one, cut_on, cut, place_after_group, described, all_replies}
+use Rattle.pac_session.specs.Groups.{GroupCut, all_requests, is_closing, lacks_room, room_made, cut_with, LogSpot, cut_after, cut_one, cut_on, cut, described, group_of, has_save, is_save, spot_after_group, all_replies}
 use Rattle.pac_session.proofs.SessionLemmas.{replies-append}
 
 pub joined-append : (xs ys : List (List Request)) → all_requests (xs ++ ys) ≡ all_requests xs ++ all_requests ys
@@ -56,8 +56,17 @@ whole-fold rules start so_far (asked ∷ more) =
 pub whole-cut : (rules : Rules) (start : SessionState) (requests : List Request) → whole (cut rules start requests) ≡ requests
 whole-cut rules start requests = whole-fold rules start (record { closed = []; rest = [] }) requests
 
-pub described-replies : (rules : Rules) (place : ℕ) (start : SessionState) (groups : List (List Request)) → all_replies (described rules place start groups) ≡ replies rules start (all_requests groups)
-described-replies rules place start [] = refl
-described-replies rules place start (group ∷ more) =
-    ap (λ (l : List Reply). replies rules start group ++ l) (described-replies rules (place_after_group place (committed rules start group)) (ends rules start group) more)
+pub described-replies : (rules : Rules) (spot : LogSpot) (start : SessionState) (groups : List (List Request)) → all_replies (described rules spot start groups) ≡ replies rules start (all_requests groups)
+described-replies rules spot start [] = refl
+described-replies rules spot start (group ∷ more) =
+    ap (λ (l : List Reply). replies rules start group ++ l) (described-replies rules (spot_after_group (group_of rules spot start group)) (ends rules start group) more)
     ∙ sym (replies-append rules start group (all_requests more))
+
+-- a save is among the first requests, or among the others
+pub has_save-append : (xs ys : List Request) → has_save (xs ++ ys) ≡ (has_save xs || has_save ys)
+has_save-append [] ys = refl
+has_save-append (x ∷ xs) ys = go (is_save x) (has_save-append xs ys)
+  where
+    go : (b : Bool) → has_save (xs ++ ys) ≡ (has_save xs || has_save ys) → (b || has_save (xs ++ ys)) ≡ ((b || has_save xs) || has_save ys)
+    go true rest = refl
+    go false rest = rest

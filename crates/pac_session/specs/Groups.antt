@@ -1,6 +1,6 @@
 -- Where requests are cut into groups. The transactions of a group are committed together, and the replies of a group are
 -- held until then. The end of the input is a stop after the requests.
-use Rattle.std.specs.Prelude.{ℕ, ◌+◌, Bool, true, false, List, [], ◌∷◌, ◌++◌, length, nat_le, nat_lt, ◌||◌, if◌then◌else◌, Option, Some, None}
+use Rattle.std.specs.Prelude.{ℕ, ◌+◌, ◌^◌, Bool, true, false, List, [], ◌∷◌, ◌++◌, length, nat_eq, nat_le, nat_lt, not, ◌&&◌, ◌||◌, if◌then◌else◌, Option, Some, None}
 use Rattle.std.specs.List.{fold}
 use Rattle.pac_ops.specs.declared.transaction.Txn.{Txn}
 use Rattle.pac_entry.specs.declared.limits.TheConstants.{MAX_BODY_LEN}
@@ -65,31 +65,85 @@ cut_on rules start whole asked = cut_after whole (cut_one rules (ends rules star
 abbrev pub cut : Rules → SessionState → List Request → GroupCut
 cut rules start requests = fold (cut_on rules start) (record { closed = []; rest = [] }) requests
 
--- ---- what groups are
+-- ---- where a log stands between groups
 
--- a group: its requests, the transactions that it commits, its replies, and the offset of the log's gate before it
-pub record Group : Type 0 where
-  pub requests : List Request
-  pub txns : List Txn
-  pub replies : List Reply
+-- the offset of its gate; how far the newest checkpoint reaches, which is one more than how many transactions it has, and 0 where
+-- there is none; and the offset of the first gate of the segment that comes next
+pub record LogSpot : Type 0 where
   pub place : ℕ
+  pub reach : ℕ
+  pub next : ℕ
 
 -- the offset of the log's gate after transactions that are committed together; where there are none nothing is written
 abbrev pub place_after_group : ℕ → List Txn → ℕ
 place_after_group place [] = place
 place_after_group place (txn ∷ txns) = place + (1 + body_len (txn ∷ txns))
 
--- lists of requests as groups, one after another, where the first begins at this offset and this state
-abbrev pub described : Rules → ℕ → SessionState → List (List Request) → List Group
-described rules place start [] = []
-described rules place start (group ∷ more) =
-    let txns = committed rules start group in
-    record { requests = group; txns = txns; replies = replies rules start group; place = place }
-    ∷ described rules (place_after_group place txns) (ends rules start group) more
+-- where the log stands after them
+abbrev pub spot_committed : LogSpot → List Txn → LogSpot
+spot_committed spot txns = record spot { place = place_after_group spot.place txns }
+
+-- Where the newest checkpoint reaches so far, a save after that many transactions writes another one: the newest has fewer, and the
+-- next segment may begin after so many.
+abbrev pub saves_anew : ℕ → ℕ → Bool
+saves_anew reach number = not (nat_eq reach (number + 1)) && nat_le number (2 ^ 62)
+
+-- where the log stands after a save: where it writes a checkpoint, at the first gate of the segment that this begins
+abbrev pub spot_saved : LogSpot → ℕ → LogSpot
+spot_saved spot number = if saves_anew spot.reach number then record spot { place = spot.next; reach = number + 1 } else spot
+
+abbrev pub is_save : Request → Bool
+is_save (request.Call call) = false
+is_save (request.AdHoc records) = false
+is_save request.Flush = false
+is_save (request.Show table key) = false
+is_save request.Save = true
+is_save request.Stop = false
+is_save (request.Refused fault) = false
+
+-- a save is among the requests
+abbrev pub has_save : List Request → Bool
+has_save [] = false
+has_save (asked ∷ more) = is_save asked || has_save more
+
+-- ---- what groups are
+
+-- a group: its requests, the transactions that it commits, its replies, how many transactions there are with its own, and where
+-- the log stands before it
+pub record Group : Type 0 where
+  pub requests : List Request
+  pub txns : List Txn
+  pub replies : List Reply
+  pub number : ℕ
+  pub spot : LogSpot
+
+-- a list of requests as a group that begins at this state, the log standing here
+abbrev pub group_of : Rules → LogSpot → SessionState → List Request → Group
+group_of rules spot start requests = record {
+  requests = requests;
+  txns = committed rules start requests;
+  replies = replies rules start requests;
+  number = (ends rules start requests).number;
+  spot = spot;
+}
+
+-- where the log stands after a group: its transactions are committed, and then a save that ends it is made
+abbrev pub spot_after_group : Group → LogSpot
+spot_after_group group = if has_save group.requests then spot_saved (spot_committed group.spot group.txns) group.number else spot_committed group.spot group.txns
+
+-- lists of requests as groups, one after another, where the first begins at this state, the log standing here
+abbrev pub described : Rules → LogSpot → SessionState → List (List Request) → List Group
+described rules spot start [] = []
+described rules spot start (group ∷ more) = group_of rules spot start group ∷ described rules (spot_after_group (group_of rules spot start group)) (ends rules start group) more
+
+-- where the log stands after groups, where it stood here before them
+abbrev pub spot_after : LogSpot → List Group → LogSpot
+spot_after spot [] = spot
+spot_after spot (group ∷ more) = spot_after (spot_after_group group) more
 
 -- the groups that closings cut off requests, up to the first stop; requests after the last closing are no group
-abbrev pub groups : Rules → ℕ → SessionState → List Request → List Group
-groups rules place start requests = described rules place start (cut rules start (up_to_stop requests)).closed
+abbrev pub groups : Rules → LogSpot → SessionState → List Request → List Group
+groups rules spot start requests = described rules spot start (cut rules start (up_to_stop requests)).closed
 
 -- the replies of groups, in their order
 abbrev pub all_replies : List Group → List Reply

@@ -1,5 +1,5 @@
 -- What a session holds between requests: the tables, and the open group.
-use Rattle.std.specs.Prelude.{◌≡◌, ◌≤◌, ◌+◌, ◌^◌, ℕ, List, [], ◌++◌, length, Some, None, refl}
+use Rattle.std.specs.Prelude.{◌≡◌, ◌≤◌, ◌+◌, ◌^◌, ℕ, false, List, [], ◌++◌, length, Some, None, refl}
 use Rattle.std.specs.List.{All}
 use Rattle.std.specs.Coded.{Coded, code_by, coded×, coded_ℕ, coded_list}
 use Rattle.pac_value.specs.State.{Tables, tables_code}
@@ -16,6 +16,7 @@ use Rattle.pac_script.specs.Batches.{body_len}
 use Rattle.pac_request.specs.declared.request.Request.{Request}
 use Rattle.pac_request.specs.declared.request.Reply.{Reply}
 use Rattle.pac_request.specs.contracts.request.Reply as reply_type
+use Rattle.pac_session.specs.Groups.{has_save}
 use Rattle.pac_session.specs.Session.{Rules, SessionState, txn_outcome, commits_asked, after_asked, reply_by, commits, state_after, answer, ends, replies, committed}
 
 -- a session: what it goes by, the tables now, how many transactions were committed before the open group, and the group's
@@ -66,12 +67,13 @@ abbrev pub with_closed : Open → Open
 with_closed now = record now { before = now.before + length now.txns; txns = []; held = [] }
 
 -- The session is within a group: it holds the replies of these requests, which began at this state, and their
--- transactions.
+-- transactions. No save is among them, since that closes its group.
 pub record IsInGroup (start : SessionState) (group : List Request) (now : Open) : Type 0 where
   pub answers : now.held ≡ replies (rules_of now) start group
   pub body : now.txns ≡ committed (rules_of now) start group
   pub here : ends (rules_of now) start group ≡ state_now now
   pub begun : start.number ≡ now.before
+  pub unsaved : has_save group ≡ false
 
 -- ---- what every session keeps
 

@@ -1,15 +1,15 @@
 // What holds of every session. Each law is a function without code.
-ghost use Rattle.std.specs.Prelude.{◌≡◌, ◌+◌, ◌++◌, ℕ, List, Ok, length};
+ghost use Rattle.std.specs.Prelude.{◌≡◌, ◌+◌, ◌++◌, List, Ok, length};
 ghost use Rattle.pac_types.specs.Execution.{serial};
 ghost use Rattle.pac_request.specs.declared.request.Request.{Request as ARequest};
 ghost use Rattle.pac_session.specs.Session.{Rules, SessionState, committed, ends, replies};
-ghost use Rattle.pac_session.specs.Groups.{all_replies, cut, described, all_requests};
+ghost use Rattle.pac_session.specs.Groups.{LogSpot, all_replies, cut, described, all_requests};
 
 /// What closings cut off requests, and what is left, are these requests in their order; and the replies of the groups are
 /// the first of the session's.
 pub fn groups_are_a_cut()
     ensures whole { (rules : Rules) (start : SessionState) (requests : List ARequest) → all_requests (cut rules start requests).closed ++ (cut rules start requests).rest ≡ requests }
-    ensures known { (rules : Rules) (place : ℕ) (start : SessionState) (groups : List (List ARequest)) → all_replies (described rules place start groups) ≡ replies rules start (all_requests groups) }
+    ensures known { (rules : Rules) (spot : LogSpot) (start : SessionState) (groups : List (List ARequest)) → all_replies (described rules spot start groups) ≡ replies rules start (all_requests groups) }
 {}
 
 /// Serial execution of what a session commits ends with the session's tables, and the session's number counts it.

@@ -3,3 +3,8 @@ pub mod Stored
 pub mod Stands
 pub mod Prefixes
 pub mod Made
+pub mod Saving
+pub mod Writing
+pub mod OldStands
+pub mod Segments
+pub mod FirstRefusals

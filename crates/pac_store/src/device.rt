@@ -6,6 +6,7 @@ ghost use Rattle.std.specs.Prelude.{◌≡◌};
 #[derive(Clone, Copy, Debug, PartialEq, Eq)]
 pub enum DeviceName {
     Log,
+    LogB,
     SlotA,
     SlotB,
 }
@@ -17,6 +18,7 @@ impl DeviceName {
     {
         match self {
             DeviceName::Log => "log",
+            DeviceName::LogB => "log_b",
             DeviceName::SlotA => "a",
             DeviceName::SlotB => "b",
         }

@@ -35,6 +35,8 @@ fn refuse_in_use<D: Disk>(devices: &mut Devices<D>) -> Result<(), MakeError>
 {
     let length = devices.log.len()?;
     refuse(DeviceName::Log, length)?;
+    let length = devices.log_b.len()?;
+    refuse(DeviceName::LogB, length)?;
     let length = devices.slot_a.len()?;
     refuse(DeviceName::SlotA, length)?;
     let length = devices.slot_b.len()?;
@@ -56,13 +58,13 @@ fn make_slot<D: Disk>(device: DeviceName, disk: &mut D) -> Result<(), MakeError>
     }
 }
 
-/// Makes the store of a catalogue's text on three empty devices: the log's header and its closed gate, and a closed gate
+/// Makes the store of a catalogue's text on four empty devices: the log's header and its closed gate, and a closed gate
 /// in each slot, each of which it syncs.
 ///
 /// # Errors
 ///
-/// - [`MakeError::NotEmpty`] exactly where a device has a byte: the first of the log, slot a and slot b. All three are
-///   looked at first, and nothing is written.
+/// - [`MakeError::NotEmpty`] exactly where a device has a byte: the first of the log, the second log device, slot a and slot
+///   b. All four are looked at first, and nothing is written.
 /// - [`MakeError::DiskFault`] where a call of a device failed, so only where its count of faults rose. Nothing is promised
 ///   of the devices then; no call of any comes after the one that failed.
 /// - [`MakeError::NoMemory`] where there was no memory for the log's header. Nothing is written.

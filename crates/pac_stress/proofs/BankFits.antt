@@ -5,7 +5,7 @@ use Rattle.std.specs.List.{AllByRecursion}
 use Rattle.pac_ops.specs.declared.batch.Batch.{Batch}
 use Rattle.pac_types.specs.Fits.{TxnFits}
 use Rattle.pac_types.specs.Typing.{CatalogueState}
-use Rattle.pac_recover.specs.Logs.{FitBatches}
+use Rattle.pac_restore.specs.Batches.{FitBatches}
 use Rattle.pac_script.specs.Stress.{deposit, family, mixed, stress_txn, transfer}
 use Rattle.pac_stress.specs.BankCatalogue.{bank_catalogue}
 use Rattle.pac_stress.specs.StressBatches.{last_batch, stress_batches, stress_txns, whole_batches}

@@ -3,7 +3,7 @@ use Rattle.std.proofs.Common.{◌≡◌, ℕ, zero, suc, ◌+◌, ◌*◌, ◌/�
 use Rattle.std.proofs.lemmas.List.FromFn.{length-map-range_with_len, map-range_with_len_more}
 use Rattle.pac_ops.specs.declared.batch.Batch.{Batch}
 use Rattle.pac_ops.specs.declared.transaction.Txn.{Txn}
-use Rattle.pac_recover.specs.Gates.{RunOn, txns_in}
+use Rattle.pac_restore.specs.Batches.{RunOn, txns_in}
 use Rattle.pac_script.specs.Stress.{stress_txn}
 use Rattle.pac_stress.specs.StressBatches.{last_batch, stress_batch, stress_batches, stress_txns, whole_batch, whole_batches}
 

@@ -18,7 +18,7 @@ use Rattle.pac_types.specs.Fits.{shape}
 use Rattle.pac_types.specs.Typing.{CatalogueState}
 use Rattle.pac_flat.specs.Agreement.{AllAgree, ReplaysTheSame}
 use Rattle.pac_flat.specs.FlatForm.{program_of}
-use Rattle.pac_recover.specs.Gates.{txns_in}
+use Rattle.pac_restore.specs.Batches.{txns_in}
 use Rattle.pac_recover.proofs.WorkerLemmas.{ends-with, same-txns, stops-with}
 use Rattle.pac_serial.specs.declared.serial.AllError.{AllError}
 use Rattle.pac_serial.specs.declared.serial.AllError.TheVariants.{Abort, NoMemory}

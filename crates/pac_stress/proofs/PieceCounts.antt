@@ -8,7 +8,7 @@ use Rattle.pac_plan.specs.declared.parts.PlanParts.{PlanParts}
 use Rattle.pac_plan.specs.Pieces.{World, blocks_of, piece_exists, pieces}
 use Rattle.pac_plan.specs.Worlds.{blocks_in}
 use Rattle.pac_commute.specs.PlanLaws.{numbers_of, planned, txns_of}
-use Rattle.pac_recover.specs.Gates.{txns_in}
+use Rattle.pac_restore.specs.Batches.{txns_in}
 use Rattle.pac_recover.proofs.WorkerLemmas.{same-txns}
 
 with_piece : (there : Bool) (p : PieceId) (ps : List PieceId) (n : ℕ) → length ps ≤ n → length (if there then p ∷ ps else ps) ≤ suc n

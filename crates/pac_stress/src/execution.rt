@@ -3,8 +3,8 @@ ghost use Rattle.std.specs.Prelude.{◌≡◌, ◌+◌, ◌-◌, ◌^◌, ◌<�
 ghost use Rattle.std.specs.FinMap.{empty};
 ghost use Rattle.pac_types.specs.Execution.{serial};
 ghost use Rattle.pac_types.specs.OperationLimits.{HasFewOperations};
-ghost use Rattle.pac_recover.specs.Gates.{RunOn, txns_in};
-ghost use Rattle.pac_recover.specs.Logs.{FitBatches};
+ghost use Rattle.pac_restore.specs.Batches.{RunOn, txns_in};
+ghost use Rattle.pac_restore.specs.Batches.{FitBatches};
 ghost use Rattle.pac_stress.specs.Stressed.{Finishes};
 
 use pac_core::Executed;

@@ -35,6 +35,7 @@ fn disk_of(alloc: Global) -> MemDisk {
 fn empty_devices(alloc: Global) -> Devices<MemDisk> {
     Devices {
         log: disk_of(alloc),
+        log_b: disk_of(alloc),
         slot_a: disk_of(alloc),
         slot_b: disk_of(alloc),
     }

@@ -112,11 +112,12 @@ impl<'a> Disk for Computed<'a> {
     }
 }
 
-fn slot<'a>() -> Computed<'a> {
+// A device without a batch: one of no bytes, or a closed slot of one.
+fn without_batch<'a>(len: u64) -> Computed<'a> {
     Computed {
         header: b"",
         batch: b"",
-        len: 1,
+        len,
     }
 }
 
@@ -127,8 +128,9 @@ fn nearly_full(batch: &[u8]) -> Devices<Computed<'_>> {
             batch,
             len: LOG_LEN,
         },
-        slot_a: slot(),
-        slot_b: slot(),
+        log_b: without_batch(0),
+        slot_a: without_batch(1),
+        slot_b: without_batch(1),
     }
 }
 

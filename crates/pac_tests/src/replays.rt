@@ -40,6 +40,7 @@ fn disk_of(alloc: Global) -> MemDisk {
 pub(crate) fn no_devices(alloc: Global) -> Devices<MemDisk> {
     Devices {
         log: disk_of(alloc),
+        log_b: disk_of(alloc),
         slot_a: disk_of(alloc),
         slot_b: disk_of(alloc),
     }

@@ -32,7 +32,7 @@ pwrite pacman.b 0 1
 fdatasync pacman.b
 ";
 
-// All is synced before it is read; then a commit, and then a save.
+// All is synced before it is read; then a commit, and then a save, which makes the file of the other segment.
 const RUN: &str = "open pacman.log Write
 flock pacman.log
 open . Read
@@ -52,18 +52,30 @@ pwrite pacman.log 37 33
 fdatasync pacman.log
 pwrite pacman.log 36 1
 fdatasync pacman.log
-pwrite pacman.a 1 52
+open pacman.log2 Make
+flock pacman.log2
+open . Read
+fsync .
+pwrite pacman.log2 0 45
+fdatasync pacman.log2
+pwrite pacman.a 1 53
 fdatasync pacman.a
 pwrite pacman.a 0 1
 fdatasync pacman.a
 ";
 
-// The next run. Its first save opens slot b, and its second closes slot a before it writes that.
+// The next run, over four files. Its first save begins a segment in the first file again and opens slot b, and its second closes
+// slot a before it begins a segment.
 const SAVES: &str = "open pacman.log Write
 flock pacman.log
 open . Read
 fsync .
 fdatasync pacman.log
+open pacman.log2 Write
+flock pacman.log2
+open . Read
+fsync .
+fdatasync pacman.log2
 open pacman.a Write
 flock pacman.a
 open . Read
@@ -74,21 +86,25 @@ flock pacman.b
 open . Read
 fsync .
 fdatasync pacman.b
-pwrite pacman.log 70 33
+pwrite pacman.log2 45 33
+fdatasync pacman.log2
+pwrite pacman.log2 44 1
+fdatasync pacman.log2
+pwrite pacman.log 0 45
 fdatasync pacman.log
-pwrite pacman.log 69 1
-fdatasync pacman.log
-pwrite pacman.b 1 52
+pwrite pacman.b 1 53
 fdatasync pacman.b
 pwrite pacman.b 0 1
 fdatasync pacman.b
-pwrite pacman.log 103 33
+pwrite pacman.log 45 33
 fdatasync pacman.log
-pwrite pacman.log 102 1
+pwrite pacman.log 44 1
 fdatasync pacman.log
 pwrite pacman.a 0 1
 fdatasync pacman.a
-pwrite pacman.a 1 52
+pwrite pacman.log2 0 45
+fdatasync pacman.log2
+pwrite pacman.a 1 53
 fdatasync pacman.a
 pwrite pacman.a 0 1
 fdatasync pacman.a
@@ -115,7 +131,7 @@ const STEPS: &[Step] = &[
     (
         "init",
         TABLE,
-        (3, "", "not empty log 136\n"),
+        (3, "", "not empty log 78\n"),
         "open pacman.log Read\n",
     ),
 ];

@@ -3,8 +3,8 @@ use Rattle.std.proofs.Common.{◌≡◌, ◌∙◌, ℕ, List, None, Ok, length,
 use Rattle.std.proofs.lemmas.Result.{err_from_is_err_and}
 use Rattle.std.specs.FinMap.{empty}
 use Rattle.pac_ops.specs.declared.batch.Batch.{Batch}
-use Rattle.pac_recover.specs.Gates.{txns_in}
-use Rattle.pac_recover.specs.Limits.{IsFirstOver}
+use Rattle.pac_restore.specs.Batches.{txns_in}
+use Rattle.pac_restore.specs.Limits.{IsFirstOver}
 use Rattle.pac_types.specs.Execution.{first_over, serial}
 use Rattle.pac_main.specs.Causes.{ScriptStops}
 use Rattle.pac_main.specs.Replay.{outcome}

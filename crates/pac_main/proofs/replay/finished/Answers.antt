@@ -1,7 +1,7 @@
 -- Tables over the limit are those with which the transactions end.
 use Rattle.std.proofs.Common.{◌≡◌, ℕ, Ok, refl, sym, subst, ◌∙◌}
 use Rattle.std.proofs.lemmas.Result.{err_from_is_err_and}
-use Rattle.pac_recover.specs.Limits.{IsFirstOver}
+use Rattle.pac_restore.specs.Limits.{IsFirstOver}
 use Rattle.pac_main.specs.Causes.{ScriptStops}
 use Rattle.pac_main.specs.Replay.{outcome}
 use Rattle.pac_main.proofs.InputLemmas.{if_err}

@@ -2,7 +2,7 @@
 use Rattle.std.proofs.Common.{ℕ, Err, Ok, ap, subst}
 use Rattle.pac_outside.specs.Causes.{Faulted}
 use Rattle.pac_outside.specs.Devices.{each}
-use Rattle.pac_recover.specs.Refusals.{AreRefused}
+use Rattle.pac_restore.specs.Restoring.{AreRefused}
 use Rattle.pac_run.specs.Run.{IsRun}
 use Rattle.pac_main.specs.Streams.{observed}
 use Rattle.pac_main.specs.declared.stop.Stop.{Stop}

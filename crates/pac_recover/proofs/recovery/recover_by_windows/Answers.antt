@@ -1,105 +1,91 @@
--- What is executed of the store that was scanned is what serial execution of what is stored gives.
-use Rattle.std.proofs.Common.{◌≡◌, ◌∙◌, ◌+◌, Err, List, ℕ, Option, refl, ap, drop, subst}
+-- What is recovered is what serial execution of what is stored gives.
+use Rattle.std.proofs.Common.{◌∙◌, ℕ, Option, ap, refl, sym, subst}
 use Rattle.std.proofs.lemmas.Result.{err_from_is_err_and}
-use Rattle.pac_ops.specs.declared.transaction.Txn.{Txn}
-use Rattle.pac_outside.specs.Disk.{DiskHistory, IfKnown}
+use Rattle.pac_outside.specs.Devices.{OneFaulted, each, log_at}
+use Rattle.pac_outside.specs.Disk.{DiskHistory}
 use Rattle.pac_outside.specs.declared.devices.Devices.{Devices}
-use Rattle.pac_types.specs.Execution.{serial}
-use Rattle.pac_log.specs.Logs.{all_txns}
-use Rattle.pac_check.specs.declared.info.SlotInfo.{SlotInfo}
-use Rattle.pac_check.specs.SlotStates.{saved_txns}
-use Rattle.pac_outside.specs.Devices.{each}
-use Rattle.pac_recover.specs.declared.errors.LoadError.{LoadError}
-use Rattle.pac_recover.specs.declared.errors.RecoverError.TheVariants as recover
-use Rattle.pac_recover.specs.declared.errors.RecoverError.{RecoverError}
-use Rattle.pac_recover.specs.Damages.{IsDamagedLog, IsDamagedSlot}
-use Rattle.pac_recover.specs.Outcomes.{outcome_of}
-use Rattle.pac_recover.specs.Rereading.{HoldsFrom}
-use Rattle.pac_recover.specs.Scanning.{IsAtGateOf}
-use Rattle.pac_recover.proofs.CauseLemmas.{as-error, no-error, same-error}
-use Rattle.pac_recover.proofs.EndLemmas.{ended-recovered, over-refused, stopped-refused}
-use Rattle.pac_recover.proofs.LoadLemmas.{three-same}
-use Rattle.pac_recover.proofs.RefusalLemmas.{as-refused, load-refused}
-use Rattle.pac_recover.proofs.ScanLemmas.{executed-known, never-log, never-slot}
+use Rattle.pac_log.specs.declared.position.NextGate.{NextGate}
+use Rattle.pac_check.specs.SlotStates.{active_of, newest_of}
+use Rattle.pac_store.specs.Images.{IfImagesKnown}
+use Rattle.pac_restore.specs.declared.errors.LoadError.TheVariants.{DiskFault}
+use Rattle.pac_restore.specs.declared.errors.RecoverError.TheVariants.{Load}
+use Rattle.pac_restore.specs.Opening.{IsRefusedReading}
+use Rattle.pac_restore.specs.Outcomes.{outcome_of, HasExecuted}
+use Rattle.pac_restore.specs.Reads.{IsReadFrom}
+use Rattle.pac_restore.specs.Restoring.{IsRecoveredFrom}
+use Rattle.pac_restore.proofs.CauseLemmas.{as-error, no-error, the-cause}
+use Rattle.pac_restore.proofs.EndLemmas.{ended-recovered, load-refused, one-cause, over-refused, stopped-refused}
+use Rattle.pac_restore.proofs.OpenLemmas.{refused-reading}
+use Rattle.pac_restore.proofs.RestoreLemmas.{restored-ends}
 use Rattle.pac_recover.proofs.recovery.recover_by_windows.Goals as goal
 
 pub returns-in_err-catalogue-clause-refused : goal.returns-in_err-catalogue-clause-refused
 returns-in_err-catalogue-clause-refused g c =
     let r = c.from_residual in
     let p = err_from_is_err_and r.result r.ensures.1 in
-    let says = c.in_err-catalogue.ensures in
-    let devices = each g.D.Disk.known c.args.devices.now in
-    as-refused c.args.limit devices r.result p.0 (recover.Load c.in_err-catalogue.field-0.0) p.1 p.2 (load-refused c.args.limit devices c.in_err-catalogue.field-0.0
-    (λ is. says.no_store (as-error _ _ is)) (λ at kind is. says.log_damage at kind (as-error _ _ is)) (λ slot at kind is. says.slot_damage slot at kind (as-error _ _ is)))
+    load-refused c.args.limit (each g.D.Disk.known c.args.devices.now) r.result p.0 c.in_err-catalogue.field-0.0 p.1 p.2 c.in_err-catalogue.ensures.refused
 
 pub returns-in_err-executed-clause-refused : goal.returns-in_err-executed-clause-refused
 returns-in_err-executed-clause-refused g c =
     let r = c.from_residual-in_err-executed in
     let p = err_from_is_err_and r.result r.ensures.1 in
-    let says = c.in_err-executed.ensures in
+    let devices = each g.D.Disk.known c.args.devices.now in
+    let opened = c.in_ok-catalogue.field-0 in
+    let says = c.in_ok-catalogue.ensures in
     let cause = c.in_err-executed.field-0.0 in
-    let d = c.args.devices.now in
-    let devices = each g.D.Disk.known d in
-    let scanned = c.in_ok-catalogue.field-0 in
-    let now = g.D.Disk.known c.scan.new.devices.log in
-    let same = ap (λ (k : Devices (Option DiskHistory)). k.log) c.in_ok-catalogue.ensures.same in
-    as-refused c.args.limit devices r.result p.0 (recover.Load cause) p.1 p.2 (load-refused c.args.limit devices cause (λ is. absurd (says.no_store (as-error _ _ is)))
-    (λ at kind is. never-log scanned.reader.gate scanned.total (λ h. IsDamagedLog at kind h.now.seen) (g.D.Disk.known d.log) now same c.in_ok-catalogue.ensures.log (says.log_damage at kind (as-error _ _ is)))
-    (λ slot at kind is.
-    let never = subst (λ (n : Option SlotInfo). (text : List ℕ) (batches : List (List Txn)) → IfKnown (λ h. HoldsFrom text batches scanned.reader.gate h.now.seen → IsAtGateOf text batches n → ⊥) now) c.newest-newest.ensures
-    (says.slot_damage slot at kind (as-error _ _ is)) in
-    never-slot scanned devices now same c.in_ok-catalogue.ensures.scanned (IsDamagedSlot slot at kind) never))
-
-pub returns-in_err-executed-clause-quiet : goal.returns-in_err-executed-clause-quiet
-returns-in_err-executed-clause-quiet g c = λ other.
-    let r = c.from_residual-in_err-executed in
-    let p = err_from_is_err_and r.result r.ensures.1 in
-    let kept = c.in_err-executed.ensures.kept (λ e. other (p.1 ∙ ap (λ (x : RecoverError). Err x) (p.2 ∙ ap (λ (cause : LoadError). recover.Load cause) (same-error _ _ e)))) in
-    three-same _ _ _ _ _ _ kept refl refl ∙ c.in_ok-catalogue.ensures.quiet (no-error _ _)
+    load-refused c.args.limit devices r.result p.0 cause p.1 p.2 (refused-reading opened.slots opened.reader.gate devices says.found opened.catalogue says.catalogue says.a says.b cause
+    (subst (λ (d : Devices (Option DiskHistory)). IsRefusedReading opened.slots opened.reader.gate d cause) says.same c.in_err-executed.ensures.refused))
 
 pub returns-in_err-tables-clause-refused : goal.returns-in_err-tables-clause-refused
 returns-in_err-tables-clause-refused g c =
-    let d = c.args.devices.now in
-    let scanned = c.in_ok-catalogue.field-0 in
+    let devices = each g.D.Disk.known c.args.devices.now in
+    let opened = c.in_ok-catalogue.field-0 in
+    let says = c.in_ok-catalogue.ensures in
     let executed = c.in_ok-executed.executed in
-    let now = g.D.Disk.known c.scan.new.devices.log in
-    let devices = each g.D.Disk.known d in
-    let says = subst (λ (n : Option SlotInfo). (text : List ℕ) (batches : List (List Txn)) → IfKnown (λ h. HoldsFrom text batches scanned.reader.gate h.now.seen
-    → outcome_of executed ≡ serial scanned.catalogue.procs (saved_txns n + 1) (drop (saved_txns n) (all_txns batches)) scanned.tables.rows) now) c.newest-newest.ensures c.in_ok-executed.ensures.outcome in
-    let ends = executed-known scanned devices now (ap (λ (k : Devices (Option DiskHistory)). k.log) c.in_ok-catalogue.ensures.same) c.in_ok-catalogue.ensures.scanned (outcome_of executed)
-    c.in_ok-catalogue.ensures.well_formed.same c.in_ok-catalogue.ensures.well_formed.number says in
+    let new = c.execute_active.new.reader.gate in
     let r = c.from_residual-in_err-tables in
     let p = err_from_is_err_and r.result r.ensures.1 in
     let found = c.in_err-tables.ensures.aborted c.in_err-tables.field-0.0 refl in
-    stopped-refused scanned.catalogue (outcome_of executed) scanned.total devices ends c.args.limit r.result p.0 p.1 found.0 (p.2 ∙ found.1) (ap outcome_of found.2)
+    stopped-refused opened.catalogue (outcome_of executed) new.txns devices
+    (restored-ends opened.slots opened.catalogue opened.tables.rows opened.reader new executed devices says.found says.first says.catalogue
+    (subst (λ (d : Devices (Option DiskHistory)). IsReadFrom (log_at (active_of opened.slots) d) (newest_of opened.slots) opened.reader.gate new (HasExecuted opened.catalogue opened.tables.rows executed)) says.same c.in_ok-executed.ensures.executed)
+    says.a says.b says.newest)
+    c.args.limit r.result p.0 p.1 found.0 (p.2 ∙ found.1) (ap outcome_of found.2)
 
 pub returns-in_err-test_rows-clause-refused : goal.returns-in_err-test_rows-clause-refused
 returns-in_err-test_rows-clause-refused g c =
-    let d = c.args.devices.now in
-    let scanned = c.in_ok-catalogue.field-0 in
+    let devices = each g.D.Disk.known c.args.devices.now in
+    let opened = c.in_ok-catalogue.field-0 in
+    let says = c.in_ok-catalogue.ensures in
     let executed = c.in_ok-executed.executed in
-    let now = g.D.Disk.known c.scan.new.devices.log in
-    let devices = each g.D.Disk.known d in
-    let says = subst (λ (n : Option SlotInfo). (text : List ℕ) (batches : List (List Txn)) → IfKnown (λ h. HoldsFrom text batches scanned.reader.gate h.now.seen
-    → outcome_of executed ≡ serial scanned.catalogue.procs (saved_txns n + 1) (drop (saved_txns n) (all_txns batches)) scanned.tables.rows) now) c.newest-newest.ensures c.in_ok-executed.ensures.outcome in
-    let ends = executed-known scanned devices now (ap (λ (k : Devices (Option DiskHistory)). k.log) c.in_ok-catalogue.ensures.same) c.in_ok-catalogue.ensures.scanned (outcome_of executed)
-    c.in_ok-catalogue.ensures.well_formed.same c.in_ok-catalogue.ensures.well_formed.number says in
+    let new = c.execute_active.new.reader.gate in
     let r = c.from_residual-in_err-test_rows in
     let p = err_from_is_err_and r.result r.ensures.1 in
     let excess = c.in_err-test_rows.field-0.0 in
     let found = c.in_err-test_rows.ensures.over excess refl in
-    over-refused scanned.catalogue (outcome_of executed) scanned.total devices ends c.args.limit r.result p.0 p.1 excess.table excess.rows excess.limit p.2 found.1
-    c.in_ok-tables.tables.rows (ap outcome_of c.in_ok-tables.ensures.ok) found.0
+    over-refused opened.catalogue (outcome_of executed) new.txns devices
+    (restored-ends opened.slots opened.catalogue opened.tables.rows opened.reader new executed devices says.found says.first says.catalogue
+    (subst (λ (d : Devices (Option DiskHistory)). IsReadFrom (log_at (active_of opened.slots) d) (newest_of opened.slots) opened.reader.gate new (HasExecuted opened.catalogue opened.tables.rows executed)) says.same c.in_ok-executed.ensures.executed)
+    says.a says.b says.newest)
+    c.args.limit r.result p.0 p.1 excess.table excess.rows excess.limit p.2 found.1 c.in_ok-tables.tables.rows (ap outcome_of c.in_ok-tables.ensures.ok) found.0
 
 pub returns-clause-recovered : goal.returns-clause-recovered
 returns-clause-recovered g c =
-    let d = c.args.devices.now in
-    let scanned = c.in_ok-catalogue.field-0 in
+    let devices = each g.D.Disk.known c.args.devices.now in
+    let opened = c.in_ok-catalogue.field-0 in
+    let says = c.in_ok-catalogue.ensures in
     let executed = c.in_ok-executed.executed in
-    let now = g.D.Disk.known c.scan.new.devices.log in
-    let devices = each g.D.Disk.known d in
-    let says = subst (λ (n : Option SlotInfo). (text : List ℕ) (batches : List (List Txn)) → IfKnown (λ h. HoldsFrom text batches scanned.reader.gate h.now.seen
-    → outcome_of executed ≡ serial scanned.catalogue.procs (saved_txns n + 1) (drop (saved_txns n) (all_txns batches)) scanned.tables.rows) now) c.newest-newest.ensures c.in_ok-executed.ensures.outcome in
-    let ends = executed-known scanned devices now (ap (λ (k : Devices (Option DiskHistory)). k.log) c.in_ok-catalogue.ensures.same) c.in_ok-catalogue.ensures.scanned (outcome_of executed)
-    c.in_ok-catalogue.ensures.well_formed.same c.in_ok-catalogue.ensures.well_formed.number says in
-    ended-recovered scanned.catalogue (outcome_of executed) scanned.total devices ends c.in_ok-tables.tables.rows (ap outcome_of c.in_ok-tables.ensures.ok)
+    let new = c.execute_active.new.reader.gate in
+    subst (λ (n : ℕ). IfImagesKnown (IsRecoveredFrom opened.catalogue c.in_ok-tables.tables.rows n) devices) (sym (c.txns.ensures.value ∙ ap (λ (at : NextGate). at.txns) c.gate.ensures)) (ended-recovered opened.catalogue (outcome_of executed) new.txns devices
+    (restored-ends opened.slots opened.catalogue opened.tables.rows opened.reader new executed devices says.found says.first says.catalogue
+    (subst (λ (d : Devices (Option DiskHistory)). IsReadFrom (log_at (active_of opened.slots) d) (newest_of opened.slots) opened.reader.gate new (HasExecuted opened.catalogue opened.tables.rows executed)) says.same c.in_ok-executed.ensures.executed)
+    says.a says.b says.newest)
+    c.in_ok-tables.tables.rows (ap outcome_of c.in_ok-tables.ensures.ok))
+
+pub returns-in_err-executed-clause-disk_fault : goal.returns-in_err-executed-clause-disk_fault
+returns-in_err-executed-clause-disk_fault g c = λ fault.
+    let r = c.from_residual-in_err-executed in
+    let p = err_from_is_err_and r.result r.ensures.1 in
+    let cause = c.in_err-executed.field-0.0 in
+    subst (λ (f : Devices ℕ). OneFaulted f (each g.D.Disk.faults c.execute_active.new.devices)) (c.in_ok-catalogue.ensures.quiet (no-error _ _))
+    (c.in_err-executed.ensures.disk_fault (as-error _ _ (one-cause cause DiskFault (the-cause r.result p.0 (Load cause) (Load DiskFault) p.1 p.2 fault))))

@@ -1,31 +1,28 @@
 -- What the feed gave of the log is executed, or the reading is refused.
-use Rattle.std.proofs.Common.{rules, ◌≡◌, ◌∙◌, ◌+◌, ◌≤◌, Bool, List, Option, Some, None, refl, sym, ap, subst, arith}
+use Rattle.std.proofs.Common.{rules, ◌≡◌, ◌∙◌, ◌+◌, ◌≤◌, Bool, List, Option, Some, None, sym, ap, subst, arith}
 use Rattle.pac_ops.specs.declared.program.Program.{Program}
 use Rattle.pac_types.specs.Execution.{serial}
 use Rattle.pac_flat.specs.Agreement.{ReplaysTheSame}
-use Rattle.pac_log.specs.declared.errors.LogError.TheVariants as error
 use Rattle.pac_log.specs.declared.position.NextGate.{NextGate}
-use Rattle.pac_recover.specs.declared.errors.Damage.TheVariants.{Log}
-use Rattle.pac_recover.specs.declared.errors.LoadError.TheVariants as load
+use Rattle.pac_restore.specs.Batches.{txns_in}
+use Rattle.pac_restore.specs.Opening.{IsInLog}
+use Rattle.pac_restore.specs.Outcomes.{FitsReplayed, outcome_of}
 use Rattle.pac_recover.specs.declared.log_feed.FeedEnd.{FeedEnd}
-use Rattle.pac_recover.specs.FedLogs.{AreBodiesCounted, refusal_of}
-use Rattle.pac_recover.specs.Gates.{txns_in}
-use Rattle.pac_recover.specs.Outcomes.{FitsReplayed, outcome_of}
+use Rattle.pac_recover.specs.FedLogs.{AreBodiesCounted, IsDamagedThere, refusal_of}
 use Rattle.pac_recover.specs.Windows.{IsExecutedWindow}
-use Rattle.pac_recover.proofs.CauseLemmas.{the-error}
-use Rattle.pac_recover.proofs.EndLemmas.{log-cause}
-use Rattle.pac_recover.proofs.WindowEnds.{executed-window, given-from, refused-damage}
+use Rattle.pac_recover.proofs.WindowEnds.{executed-window, given-from, refused-there}
 use Rattle.pac_recover.proofs.WorkerLemmas.{fits-executed, gives}
 use Rattle.pac_recover.proofs.windows.execute_window.Goals as goal
 
-pub returns-in-Some-clause-log_damage : goal.returns-in-Some-clause-log_damage
-returns-in-Some-clause-log_damage g c = λ at kind is.
+pub returns-in-Some-clause-refused : goal.returns-in-Some-clause-refused
+returns-in-Some-clause-refused g c =
     let end = c.execute_feed-executed.new.feed.end in
     let given = c.execute_feed-executed.ensures.given in
-    let of_log = given-from (g.D.Disk.known c.args.disk.now) _ _ c.args.reader.now.gate _ _ given.0 _ end (λ i. g.D.Disk.known (c.new-feed.ensures.disk i).now) (λ i. (c.new-feed.ensures.reader i).now.gate) c.new-feed.ensures.end given.1.known.4 in
-    let cause : c.in-Some.cause ≡ error.Damaged at kind = log-cause c.in-Some.cause at kind (sym c.from.ensures ∙ the-error _ c.from.result (load.Damaged (Log at kind)) refl is) in
-    let refusal : refusal_of end ≡ Some (error.Damaged at kind) = sym c.refusal.ensures ∙ c.in-Some.is ∙ ap (λ e. Some e) cause in
-    refused-damage (g.D.Disk.known c.args.disk.now) _ c.args.reader.now.gate _ given.0 end of_log at kind refusal
+    let known = g.D.Disk.known c.args.disk.now in
+    let of_log = given-from known _ _ c.args.reader.now.gate _ _ given.0 _ end (λ i. g.D.Disk.known (c.new-feed.ensures.disk i).now) (λ i. (c.new-feed.ensures.reader i).now.gate) c.new-feed.ensures.end given.1.known.4 in
+    let refusal : refusal_of end ≡ Some c.in-Some.cause = sym c.refusal.ensures ∙ c.in-Some.is in
+    subst (λ e. IsInLog c.args.name (IsDamagedThere known c.args.reader.now.gate) e) (sym c.in_log.ensures)
+    (refused-there known _ c.args.reader.now.gate _ given.0 end of_log c.args.name c.in-Some.cause refusal)
 
 pub returns-clause-fits : goal.returns-clause-fits
 returns-clause-fits g c =

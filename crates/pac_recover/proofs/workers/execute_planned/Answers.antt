@@ -1,6 +1,6 @@
 -- The batches may be executed over the plan, and what that leaves is what serial execution gives.
 use Rattle.std.proofs.Common.{◌∙◌, ap, length, subst, sym, arith}
-use Rattle.pac_recover.specs.Outcomes.{FitsReplayed, outcome_of}
+use Rattle.pac_restore.specs.Outcomes.{FitsReplayed, outcome_of}
 use Rattle.pac_recover.proofs.WorkerLemmas.{fits-executed, gives, numbers-run, same-txns, txns-of-plan}
 use Rattle.pac_recover.proofs.workers.execute_planned.Goals as goal
 

@@ -2,12 +2,12 @@
 use Rattle.std.proofs.Common.{◌∙◌, ℕ, subst}
 use Rattle.pac_outside.specs.Devices.{OneFaulted, each}
 use Rattle.pac_outside.specs.declared.devices.Devices.{Devices}
-use Rattle.pac_run.proofs.RunLemmas.{is-run, not-opened}
+use Rattle.pac_run.proofs.RunLemmas.{active-ends, is-run, not-opened}
 use Rattle.pac_run.proofs.ServedStops.{device-failed, fault-is, none-failed, refuses-none}
 use Rattle.pac_run.proofs.command.run.Goals as goal
 
 pub returns-in-Ok-clause-run : goal.returns-in-Ok-clause-run
-returns-in-Ok-clause-run g c = is-run c.args.batch c.args.limit c.in-Ok.engine c.serve.new.engine _ _ _ _ (each g.D.Disk.known c.args.devices.now) _ _ _ c.serve.result c.in-Ok.ensures.fresh c.in-Ok.ensures.within c.in-Ok.ensures.opened c.in-Ok.ensures.begins c.in-Ok.ensures.moments c.in-Ok.ensures.seen c.serve.ensures.served (λ worked. (c.serve.ensures.worked worked).log) (λ need is. (c.serve.ensures.full need is).log)
+returns-in-Ok-clause-run g c = is-run c.args.batch c.args.limit c.in-Ok.engine c.serve.new.engine _ _ _ _ (each g.D.Disk.known c.args.devices.now) _ _ _ c.serve.result c.in-Ok.ensures.fresh c.in-Ok.ensures.within c.in-Ok.ensures.opened c.in-Ok.ensures.begins c.in-Ok.ensures.moments c.in-Ok.ensures.seen c.serve.ensures.served (λ worked. active-ends g.D.Disk.known c.serve.new.engine c.serve.new.devices (c.serve.ensures.worked worked)) (λ bytes is. active-ends g.D.Disk.known c.serve.new.engine c.serve.new.devices (c.serve.ensures.large bytes is)) (λ need is. active-ends g.D.Disk.known c.serve.new.engine c.serve.new.devices (c.serve.ensures.full need is))
 
 pub returns-in-Ok-clause-disk_fault : goal.returns-in-Ok-clause-disk_fault
 returns-in-Ok-clause-disk_fault g c =

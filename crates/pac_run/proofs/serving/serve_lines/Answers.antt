@@ -2,7 +2,7 @@
 use Rattle.std.proofs.Common.{ℕ, ◌+◌, take, ◌∙◌, ap, refl, sym, arith}
 use Rattle.std.proofs.lemmas.Result.{err_from_is_err_and}
 use Rattle.pac_outside.specs.Devices.{each}
-use Rattle.pac_recover.proofs.CauseLemmas.{as-error}
+use Rattle.pac_restore.proofs.CauseLemmas.{as-error}
 use Rattle.pac_run.proofs.LineLemmas.{broke-any, catalogue-stays, end-any, falls-any, first-serving, more-any, never-input, read-any, faulted-later, stopped-any}
 use Rattle.pac_run.proofs.ShortLines.{keeps_whole}
 use Rattle.pac_lines.specs.Short.{ShortState}

@@ -6,4 +6,4 @@ pub returns-clause-whole : goal.returns-clause-whole
 returns-clause-whole c = λ rules start requests. whole-cut rules start requests
 
 pub returns-clause-known : goal.returns-clause-known
-returns-clause-known c = λ rules place start groups. described-replies rules place start groups
+returns-clause-known c = λ rules spot start groups. described-replies rules spot start groups

@@ -6,8 +6,8 @@ use Rattle.pac_ops.specs.declared.batch.Batch.{Batch}
 use Rattle.pac_ops.specs.declared.transaction.Txn.{Txn}
 use Rattle.pac_types.specs.Typing.{CatalogueState}
 use Rattle.pac_types.specs.Execution.{serial}
-use Rattle.pac_recover.specs.Gates.{RunOn, txns_in}
-use Rattle.pac_recover.specs.Logs.{FitBatches}
+use Rattle.pac_restore.specs.Batches.{RunOn, txns_in}
+use Rattle.pac_restore.specs.Batches.{FitBatches}
 use Rattle.pac_stress.specs.BankCatalogue.{bank_catalogue}
 use Rattle.pac_stress.specs.StressBatches.{stress_batches}
 use Rattle.pac_stress.specs.Summary.{summary}

@@ -1,6 +1,7 @@
 -- The engine's parts do what the request asks, and its flag is set after them.
 use Rattle.std.proofs.Common.{◌≡◌, List, refl, subst}
 use Rattle.pac_outside.specs.Devices.{each}
+use Rattle.pac_check.specs.SlotStates.{active_of}
 use Rattle.pac_request.specs.declared.request.Request.{Request}
 use Rattle.pac_session.specs.Session.{SessionState}
 use Rattle.pac_session.specs.Groups.{cut_one}
@@ -9,6 +10,7 @@ use Rattle.pac_engine.specs.declared.fault.EngineCause.TheVariants.{DiskFault}
 use Rattle.pac_engine.specs.declared.parts.EngineParts.{EngineParts}
 use Rattle.pac_engine.specs.Closing.{MayEndAfter}
 use Rattle.pac_engine.specs.Handled.{GivesBefore}
+use Rattle.pac_engine.specs.Standing.{spot_of}
 use Rattle.pac_engine.proofs.StepLemmas.{flag-keeps, flag-stands}
 use Rattle.pac_engine.proofs.RoomLemmas.{room-flagged}
 use Rattle.pac_engine.proofs.engine.Engine.step.Goals as goal
@@ -27,7 +29,7 @@ returns-in-Err-clause-room g c = room-flagged g.D.Disk.known c.args.request c.ar
 
 pub returns-in-Err-clause-torn : goal.returns-in-Err-clause-torn
 returns-in-Err-clause-torn g c = subst (λ (e : EngineParts). c.in-Err.fault.cause ≡ DiskFault → (start : SessionState) (group : List Request) → IsInGroup start group e.session
-    → MayEndAfter (rules_of e.session) start (cut_one (rules_of e.session) start group c.args.request).closed e.log.gate (each g.D.Disk.known c.handle.new.devices)) c.self.view_is c.in-Err.ensures.handled.torn
+    → MayEndAfter (active_of e.slots) (rules_of e.session) (spot_of e) start (cut_one (rules_of e.session) start group c.args.request).closed e.log.gate (each g.D.Disk.known c.handle.new.devices)) c.self.view_is c.in-Err.ensures.handled.torn
 
 pub returns-in-Err-clause-given : goal.returns-in-Err-clause-given
 returns-in-Err-clause-given g c = subst (λ (e : EngineParts). c.in-Err.fault.cause ≡ DiskFault → GivesBefore c.args.request e.session c.in-Err.fault.replies) c.self.view_is c.in-Err.ensures.handled.given

@@ -2,9 +2,9 @@
 use Rattle.std.proofs.Common.{inl, ◌∙◌, List, Err, ap, refl, subst, sym, arith, rules}
 use Rattle.std.proofs.lemmas.Grind.{common_steps}
 use Rattle.std.specs.List.{AllByRecursion}
-use Rattle.pac_outside.specs.Devices.{each}
+use Rattle.pac_outside.specs.Devices.{each, log_at}
+use Rattle.pac_check.specs.SlotStates.{active_of}
 use Rattle.pac_outside.specs.Disk.{IfKnown}
-use Rattle.pac_log.specs.declared.position.NextGate.{NextGate}
 use Rattle.pac_log.specs.Torn.{LogEndsAtEither}
 use Rattle.pac_request.specs.declared.request.Reply.{Reply}
 use Rattle.pac_session.specs.Groups.{cut_one}
@@ -12,11 +12,11 @@ use Rattle.pac_session.specs.Open.{rules_of}
 use Rattle.pac_engine.specs.declared.fault.EngineCause.{EngineCause}
 use Rattle.pac_engine.specs.Closing.{CountsFault, IsKept}
 use Rattle.pac_engine.specs.Committing.{gate_past}
-use Rattle.pac_engine.specs.Standing.{durable_of, saved_of}
+use Rattle.pac_engine.specs.Standing.{durable_of, saved_of, spot_of}
 use Rattle.pac_engine.specs.declared.parts.EngineParts.{EngineParts}
 use Rattle.pac_engine.proofs.StepLemmas.{asked-keeps-known, asked-stands-known, after-closed, after-gate, after-keeps, after-later, after-stands, after-stops, closed-kept}
 use Rattle.pac_engine.proofs.RoomLemmas.{room-closed, same-cause}
-use Rattle.pac_engine.proofs.TornLemmas.{may-end}
+use Rattle.pac_engine.proofs.TornLemmas.{may-end, newest-same}
 use Rattle.pac_engine.proofs.parts.EngineParts.close_after.Goals as goal
 
 pub returns-then-not-ends_group : goal.returns-then-not-ends_group
@@ -34,6 +34,7 @@ returns-then-not-ends_group g c = λ before asked is. record {
   goes_on = tt;
   given = tt;
   slots = λ other. (refl, refl);
+  newest = refl;
   room = tt;
   torn = tt;
   counted = refl;
@@ -54,6 +55,7 @@ returns-in-Ok g c = λ before asked is. record {
   goes_on = tt;
   given = tt;
   slots = λ other. (c.close.ensures.slot_a, c.close.ensures.slot_b);
+  newest = newest-same g.D.Disk.known before c.args.devices.now c.close.new.devices c.close.ensures.slot_a c.close.ensures.slot_b;
   room = tt;
   torn = tt;
   counted = c.in-Ok.ensures.faults;
@@ -77,9 +79,10 @@ returns-in-Err g c = λ before asked is. record {
   goes_on = λ e. c.in-Err.ensures.goes_on (ap (λ x. Err x) (sym c.fault.ensures.cause ∙ e));
   given = λ is. inl c.fault.ensures.replies;
   slots = λ other. (c.close.ensures.slot_a, c.close.ensures.slot_b);
+  newest = newest-same g.D.Disk.known before c.args.devices.now c.close.new.devices c.close.ensures.slot_a c.close.ensures.slot_b;
   room = room-closed g.D.Disk.known asked before c.close.new.self c.args.devices.now c.close.new.devices c.fault.result.cause (λ not. c.in-Err.ensures.uncalled (λ e. not (c.fault.ensures.cause ∙ same-cause e))) (c.in-Err.ensures.unmoved.gate ∙ ap (λ (e : EngineParts). e.log.gate) is.becomes) (λ bytes e. c.in-Err.ensures.known bytes (ap (λ x. Err x) (sym c.fault.ensures.cause ∙ e)));
-  torn = λ fault start group within. may-end g.D.Disk.known (rules_of before.session) start (cut_one (rules_of before.session) start group asked).closed before.log.gate (gate_past c.args.self.now.session.txns c.args.self.now.log.gate) c.close.new.devices
+  torn = λ fault start group within. may-end g.D.Disk.known (active_of before.slots) (rules_of before.session) (spot_of before) start (cut_one (rules_of before.session) start group asked).closed before.log.gate (gate_past c.args.self.now.session.txns c.args.self.now.log.gate) c.close.new.devices
       (after-gate before c.args.self.now asked c.args.closing is start group within c.ends_group.result c.ends_group.ensures c.if-not-ends_group.false is.live.working.counted)
-      (subst (λ (gate : NextGate). IfKnown (λ h. LogEndsAtEither gate (gate_past c.args.self.now.session.txns c.args.self.now.log.gate) h.now) (g.D.Disk.known c.close.new.devices.log)) (ap (λ (e : EngineParts). e.log.gate) is.becomes) c.in-Err.ensures.torn);
+      (subst (λ (e : EngineParts). IfKnown (λ h. LogEndsAtEither e.log.gate (gate_past c.args.self.now.session.txns c.args.self.now.log.gate) h.now) (g.D.Disk.known (log_at (active_of e.slots) c.close.new.devices))) is.becomes c.in-Err.ensures.torn);
   counted = subst (λ (cause : EngineCause). CountsFault cause (each g.D.Disk.faults c.args.devices.now) (each g.D.Disk.faults c.close.new.devices)) (sym c.fault.ensures.cause) c.in-Err.ensures.faults;
 }

@@ -1,0 +1,1 @@
+-- One of the two log devices is executed.

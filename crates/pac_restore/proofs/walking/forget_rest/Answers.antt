@@ -1,0 +1,18 @@
+-- A refusal is one of this device.
+use Rattle.std.proofs.Common.{◌∙◌, ℕ, List, sym, subst}
+use Rattle.pac_ops.specs.declared.transaction.Txn.{Txn}
+use Rattle.pac_log.specs.declared.damage.DamageKind.{DamageKind}
+use Rattle.pac_log.specs.declared.header.Header.{Header}
+use Rattle.pac_log.specs.Reading.{StandsAfter}
+use Rattle.pac_outside.specs.Disk.{IfKnown}
+use Rattle.pac_restore.specs.Opening.{IsInLog}
+use Rattle.pac_restore.specs.Reads.{IsDamagedAfter}
+use Rattle.pac_restore.proofs.CauseLemmas.{as-error}
+use Rattle.pac_restore.proofs.SlotLemmas.{log-refused}
+use Rattle.pac_restore.proofs.walking.forget_rest.Goals as goal
+
+pub returns-in-Err-clause-refused : goal.returns-in-Err-clause-refused
+returns-in-Err-clause-refused g c =
+    let P : ℕ → DamageKind → Type 0 = λ at kind. (header : Header) (before : List (List Txn)) → IfKnown (λ old. StandsAfter header before c.args.reader.now.gate old.now.seen → IsDamagedAfter header c.args.reader.now.gate.catalogue at kind old.now.seen) (g.D.Disk.known c.args.disk.now) in
+    subst (λ e. IsInLog c.args.name P e) (sym c.in_log.ensures)
+    (log-refused c.args.name P c.in-Err.cause (λ is. c.take_rest.ensures.known (c.in-Err.is ∙ as-error _ _ is)) (λ at kind is header before. c.take_rest.ensures.damaged at kind (c.in-Err.is ∙ as-error _ _ is) header before))

@@ -1,0 +1,10 @@
+pub mod Causes
+pub mod Batches
+pub mod Reads
+pub mod Refusals
+pub mod Opening
+pub mod Outcomes
+pub mod Limits
+pub mod Loading
+pub mod Restoring
+pub mod Prefixes
