@@ -31,7 +31,13 @@ made() {
     echo "$catalogue" | "$program" init
 }
 
-calls() { awk -v lines="$1" 'BEGIN { for (i = 1; i <= lines; i++) print "call Put(" i ")" }'; }
+# Lines: $1 calls, with a save after each $2 of them if that is given.
+calls() {
+    awk -v lines="$1" -v saves="${2:-0}" 'BEGIN { for (i = 1; i <= lines; i++) {
+        print "call Put(" i ")"
+        if (saves && i % saves == 0) print "save"
+    } }'
+}
 
 # Sees that the acknowledged transactions of `replies` are recovered.
 whole() {
@@ -45,33 +51,37 @@ whole() {
     fi
 }
 
-# A limit on the size of files: writes past it fail, and the signal that says so is ignored.
-made
-(
-    trap '' XFSZ
-    ulimit -f 100
-    calls 20000 | "$program" run --batch 8 2> line
-) | cat > replies
-compared "files of 100 blocks at most" 8 "disk fault" "${PIPESTATUS[0]}" line
-whole
-cd ..
+# A limit on the size of files: writes past it fail, and the signal that says so is ignored. With saves it is a checkpoint that fails.
+for saves in "" 100; do
+    made
+    (
+        trap '' XFSZ
+        ulimit -f 100
+        calls 20000 $saves | "$program" run --batch 8 2> line
+    ) | cat > replies
+    compared "files of 100 blocks at most${saves:+, with saves}" 8 "disk fault" "${PIPESTATUS[0]}" line
+    whole
+    cd ..
+done
 
 # A full disk.
 if unshare -rm true 2> /dev/null; then
     mkdir full
-    unshare -rm bash -c '
-        mount -t tmpfs -o size=256k none full && cd full || exit 99
-        echo "$2" | "$1" init && "$1" run --batch 8 < /dev/stdin > ../replies 2> ../line
-        echo $? > ../status
-        "$1" recover > ../dump 2> ../recovered
-        echo $? > ../recover_status' bash "$program" "$catalogue" < <(calls 20000)
-    compared "a disk of 256 KiB" 8 "disk fault" "$(cat status)" line
-    told=$(head -n "$(wc -l < replies)" replies | awk '$1 == "committed" { told = $2 } END { print told + 0 }')
-    rows=$(awk '/^table T/ { print $3 }' dump)
-    if [ "$(cat recover_status)" = 0 ] && [ "${rows:-0}" -ge "$told" ]; then echo "  $told acknowledged, $rows recovered"; else
-        echo "  $told acknowledged, ${rows:-none} recovered, which is wrong: $(head -1 recovered)"
-        wrong=1
-    fi
+    for saves in "" 100; do
+        unshare -rm bash -c '
+            mount -t tmpfs -o size=256k none full && cd full || exit 99
+            echo "$2" | "$1" init && "$1" run --batch 8 < /dev/stdin > ../replies 2> ../line
+            echo $? > ../status
+            "$1" recover > ../dump 2> ../recovered
+            echo $? > ../recover_status' bash "$program" "$catalogue" < <(calls 20000 $saves)
+        compared "a disk of 256 KiB${saves:+, with saves}" 8 "disk fault" "$(cat status)" line
+        told=$(head -n "$(wc -l < replies)" replies | awk '$1 == "committed" { told = $2 } END { print told + 0 }')
+        rows=$(awk '/^table T/ { print $3 }' dump)
+        if [ "$(cat recover_status)" = 0 ] && [ "${rows:-0}" -ge "$told" ]; then echo "  $told acknowledged, $rows recovered"; else
+            echo "  $told acknowledged, ${rows:-none} recovered, which is wrong: $(head -1 recovered)"
+            wrong=1
+        fi
+    done
 else
     echo "a full disk: no user namespaces here"
 fi

@@ -4,7 +4,7 @@
 #
 #     tools/run_kill.sh PROGRAM [ROUNDS [LINES [SECONDS]]]
 #
-# A round has LINES deposits, and is killed within SECONDS.
+# A round has LINES deposits with a save after each 100, and is killed within SECONDS.
 set -eu
 
 program=$(realpath "${1:?usage: tools/run_kill.sh PROGRAM [ROUNDS [LINES [SECONDS]]]}")
@@ -17,16 +17,16 @@ folder=$(mktemp -d)
 trap 'rm -rf "$folder"' EXIT
 cd "$folder"
 
-# The i-th deposit is to account i, so what is recovered tells which deposits were executed. The slots are saved meanwhile.
+# The i-th deposit is to account i, so what is recovered tells which deposits were executed. Each save begins a segment of the log.
 awk -v lines="$lines" 'BEGIN {
     for (i = 1; i <= lines; i++) {
         print "call Deposit(" i ", 1, 7)"
-        if (i % 1000 == 0) print "save"
+        if (i % 100 == 0) print "save"
     }
 }' > lines
 
 for round in $(seq "$rounds"); do
-    rm -f pacman.log pacman.a pacman.b
+    rm -f pacman.log pacman.log2 pacman.a pacman.b
     "$program" init < "$catalogue"
     "$program" run --batch 16 < lines > replies 2> errors &
     run=$!
@@ -37,15 +37,16 @@ for round in $(seq "$rounds"); do
     if [ "$status" = 137 ]; then end=killed; else end="ended before the kill"; fi
 
     # A reply is a whole line. The last one may be cut.
-    told=$(head -n "$(wc -l < replies)" replies | awk '$1 == "committed" { told = $2 } END { print told + 0 }')
+    told=$(head -n "$(wc -l < replies)" replies | awk '{ told = $2 } END { print told + 0 }')
+    saves=$(head -n "$(wc -l < replies)" replies | grep -c saved) || true
     "$program" recover > dump
-    awk -v round="$round" -v told="$told" -v end="$end" '
+    awk -v round="$round" -v told="$told" -v saves="$saves" -v end="$end" '
         /^table / { table = $2; next }
         table == "Current" { found++; if ($1 != found || $2 != "(1)") wrong = 1 }
         table == "Stats" { counted = $2 }
         END {
             right = !wrong && found + 0 >= told && (found == 0 || counted == "(" found ")")
-            print "round " round ", " end ": " told " acknowledged, " found + 0 " recovered" (right ? "" : ", which is wrong")
+            print "round " round ", " end ": " told " acknowledged, " saves " saves, " found + 0 " recovered" (right ? "" : ", which is wrong")
             exit !right
         }' dump
 done

@@ -3,7 +3,7 @@
 
     tools/stored.py FOLDER
 
-`answer(log, a, b)` takes the bytes of the three files, and gives the status, the output and the line on standard error. The
+`answer(log, log_b, a, b)` takes the bytes of the four files, and gives the status, the output and the line on standard error. The
 catalogue is read by tools/explained.py, which notices a text that has no catalogue's form, but not one that is refused for a type or
 a name. What the transactions leave is computed by tools/executed.py.
 """
@@ -89,19 +89,26 @@ class Bytes:
 
 
 def catalogue_of(log):
-    """The catalogue of a log and the offset of its first gate byte; nothing where the log doesn't begin as one."""
-    length = int.from_bytes(log[8:12], "little")
-    if log[:8] != b"PACMLOG1" or len(log) < 12 + length + 1:
+    """The catalogue of a segment, how many transactions came before it, and the offset of its first gate byte; nothing where it
+    doesn't begin as one."""
+    at, before = 8, 0
+    if log[:8] == b"PACMLOG2":
+        at, before = 16, int.from_bytes(log[8:16], "little")
+    elif log[:8] != b"PACMLOG1":
+        return None
+    length = int.from_bytes(log[at : at + 4], "little")
+    begin = at + 4
+    if len(log) < begin + length + 1 or before > 1 << 62:
         return None
     try:
-        return Reader(log[12 : 12 + length].decode("ascii")).catalogue(), 12 + length
+        return Reader(log[begin : begin + length].decode("ascii")).catalogue(), before, begin + length
     except (AssertionError, IndexError, KeyError, ValueError):
         return None
 
 
-def log_of(log, catalogue, gate):
-    """The transactions of a log, and how many stand before each gate byte."""
-    txns, gates = [], {gate: 0}
+def log_of(log, catalogue, before, gate):
+    """The transactions of a segment, and how many come before each gate byte, those before the segment among them."""
+    txns, gates = [], {gate: before}
     while log[gate] == 1:
         body = Bytes(log, gate + 1, len(log), None)
         numbers = []
@@ -117,18 +124,29 @@ def log_of(log, catalogue, gate):
         if entries.at != entries.end:
             raise Damaged(entries.at, "Range")
         gate = entries.end
-        gates[gate] = len(txns)
+        gates[gate] = before + len(txns)
     return txns, gates
 
 
-def slot_of(slot, catalogue):
-    """The number of transactions, the place and the rows of each table of an open slot; nothing of one that is closed."""
+def front_of(slot):
+    """The number of transactions, the log file and the place of an open slot, and the offset of its number of tables; nothing of
+    one that is closed."""
     if slot[:1] != b"\1":
         return None
-    if slot[1:9] != b"PACMSLT1":
+    if slot[1:9] not in (b"PACMSLT1", b"PACMSLT2"):
         raise Damaged(1, "Magic")
-    reader = Bytes(slot, 9, len(slot), "Row")
-    txns, place, at, rows = reader.number(8), reader.number(8), reader.at, {}
+    reader, device = Bytes(slot, 9, len(slot), "Row"), 0
+    txns, place = reader.number(8), reader.number(8)
+    if slot[1:9] == b"PACMSLT2":
+        at, device = reader.at, reader.number(1)
+        if device > 1:
+            raise Damaged(at, "Range")
+    return txns, device, place, reader.at
+
+
+def rows_of(slot, at, catalogue):
+    """The rows of each table of an open slot."""
+    reader, rows = Bytes(slot, at, len(slot), "Row"), {}
     if reader.number(2) != len(catalogue.tables):
         raise Damaged(at, "Range")
     for table in catalogue.tables:
@@ -140,7 +158,7 @@ def slot_of(slot, catalogue):
             last = key
             found[key] = tuple(reader.value(type_) for _, type_ in table.columns)
         rows[table.name] = found
-    return txns, place, rows
+    return rows
 
 
 def executed(catalogue, rows, txns, before):
@@ -161,32 +179,43 @@ def executed(catalogue, rows, txns, before):
     return 0, database.dump(), ""
 
 
-def answer(log, a, b):
-    begun = catalogue_of(log)
-    if begun is None:
-        return 3, "", "no store\n"
-    catalogue, device, slots = begun[0], "log", {}
+def answer(log, log_b, a, b):
+    slots, newest, device = {"a": a, "b": b}, None, None
     try:
-        txns, gates = log_of(log, *begun)
-        for device, data in (("a", a), ("b", b)):
-            slots[device] = slot_of(data, catalogue)
-        for device in ("a", "b"):
-            if slots[device] and gates.get(slots[device][1]) != slots[device][0]:
-                raise Damaged(9, "Place")
+        fronts = {}
+        for device, data in slots.items():
+            fronts[device] = front_of(data)
+        newest = max((name for name in slots if fronts[name]), key=lambda name: fronts[name][0], default=None)
+        saved, number, place, _ = fronts[newest] if newest else (0, 0, None, None)
+        device, data = (("log", log), ("log_b", log_b))[number]
+        begun = catalogue_of(data)
+        if begun is None:
+            return 3, "", "no store\n"
+        catalogue, before, _ = begun
+        if newest is None and before:
+            raise Damaged(8, "Range")
+        txns, gates = log_of(data, *begun)
+        rows = {}
+        for device, data in slots.items():
+            rows[device] = rows_of(data, fronts[device][3], catalogue) if fronts[device] else {}
+        device = newest
+        if newest and gates.get(place) != saved:
+            raise Damaged(9, "Place")
     except Damaged as damage:
         return 3, "", "damaged {} {} {}\n".format(device, *damage.args)
-    before, _, rows = max((slots[device] or (-1, 0, {}) for device in ("a", "b")), key=lambda slot: slot[0])
-    before = max(before, 0)
-    return executed(catalogue, rows, txns[before:], before)
+    return executed(catalogue, rows[newest] if newest else {}, txns[saved - before :], saved)
 
 
 def main(words):
     if len(words) != 1:
         return __doc__
     def read(name):
-        with open(os.path.join(words[0], "pacman." + name), "rb") as file:
+        path = os.path.join(words[0], "pacman." + name)
+        if not os.path.exists(path):
+            return b""
+        with open(path, "rb") as file:
             return file.read()
-    status, output, line = answer(read("log"), read("a"), read("b"))
+    status, output, line = answer(read("log"), read("log2"), read("a"), read("b"))
     print(output, end="")
     print(line, end="", file=sys.stderr)
     return status

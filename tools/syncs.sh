@@ -26,12 +26,12 @@ wrong() {
 traced() {
     strace -f -y -o ../trace -e trace=openat,flock,pwrite64,fdatasync,fsync "$program" "$@" > ../output
     sed -n -E \
-        -e 's/^[0-9]+ +openat\([^"]*"(pacman\.[a-z]+|\.)", O_RDWR\|O_CREAT\|O_EXCL[^)]*\) += [0-9].*/open \1 Make/p;t' \
-        -e 's/^[0-9]+ +openat\([^"]*"(pacman\.[a-z]+|\.)", O_RDWR\|O_(NOCTTY|CLOEXEC)[^)]*\) += [0-9].*/open \1 Write/p;t' \
-        -e 's/^[0-9]+ +openat\([^"]*"(pacman\.[a-z]+|\.)", O_RDONLY[^)]*\) += [0-9].*/open \1 Read/p;t' \
-        -e 's/^[0-9]+ +flock\([0-9]+<.*\/(pacman\.[a-z]+)>, LOCK_EX\|LOCK_NB\) += 0$/flock \1/p;t' \
-        -e 's/^[0-9]+ +pwrite64\([0-9]+<.*\/(pacman\.[a-z]+)>, .*, ([0-9]+), ([0-9]+)\) += \2$/pwrite \1 \3 \2/p;t' \
-        -e 's/^[0-9]+ +fdatasync\([0-9]+<.*\/(pacman\.[a-z]+)>\) += 0$/fdatasync \1/p;t' \
+        -e 's/^[0-9]+ +openat\([^"]*"(pacman\.[a-z0-9]+|\.)", O_RDWR\|O_CREAT\|O_EXCL[^)]*\) += [0-9].*/open \1 Make/p;t' \
+        -e 's/^[0-9]+ +openat\([^"]*"(pacman\.[a-z0-9]+|\.)", O_RDWR\|O_(NOCTTY|CLOEXEC)[^)]*\) += [0-9].*/open \1 Write/p;t' \
+        -e 's/^[0-9]+ +openat\([^"]*"(pacman\.[a-z0-9]+|\.)", O_RDONLY[^)]*\) += [0-9].*/open \1 Read/p;t' \
+        -e 's/^[0-9]+ +flock\([0-9]+<.*\/(pacman\.[a-z0-9]+)>, LOCK_EX\|LOCK_NB\) += 0$/flock \1/p;t' \
+        -e 's/^[0-9]+ +pwrite64\([0-9]+<.*\/(pacman\.[a-z0-9]+)>, .*, ([0-9]+), ([0-9]+)\) += \2$/pwrite \1 \3 \2/p;t' \
+        -e 's/^[0-9]+ +fdatasync\([0-9]+<.*\/(pacman\.[a-z0-9]+)>\) += 0$/fdatasync \1/p;t' \
         -e 's/^[0-9]+ +fsync\([0-9]+<.*\/store>\) += 0$/fsync ./p;t' \
         -e '/pacman\.|fsync|fdatasync|pwrite/s/^/another call: /p' ../trace > ../calls
 }
@@ -70,7 +70,7 @@ calls INIT init < ../catalogue
 calls RUN run < ../lines
 calls SAVES run < ../more_lines
 traced recover < /dev/null
-printf 'open pacman.log Read\nopen pacman.a Read\nopen pacman.b Read\n' | diff - ../calls || wrong "the calls of pacman recover"
+printf 'open pacman.a Read\nopen pacman.b Read\nopen pacman.log2 Read\n' | diff - ../calls || wrong "the calls of pacman recover"
 echo "recover: it only reads"
 
 # Two runs at once. The first is held by its input.
@@ -81,9 +81,9 @@ exec 9> ../input
 echo 'adhoc put T[3] = (4)' >&9
 for _ in $(seq 100); do if [ -s ../replies ]; then break; fi; sleep 0.1; done
 grep -q '^committed 4$' ../replies || wrong "the first run didn't commit"
-cp pacman.log pacman.a pacman.b ..
+cp pacman.log pacman.log2 pacman.a pacman.b ..
 ends 8 run < ../lines
-for file in pacman.log pacman.a pacman.b; do cmp "$file" "../$file" || wrong "a second run wrote $file"; done
+for file in pacman.log pacman.log2 pacman.a pacman.b; do cmp "$file" "../$file" || wrong "a second run wrote $file"; done
 ends 0 recover < /dev/null
 echo 'adhoc put T[5] = (6)' >&9
 for _ in $(seq 100); do if grep -q '^committed 5$' ../replies; then break; fi; sleep 0.1; done
@@ -103,9 +103,9 @@ ends 0 recover < /dev/null
 printf 'table T 3\n1 (2)\n3 (4)\n5 (6)\n' | cmp - ../output || wrong "a run with its output closed changed what is stored"
 echo "a run with its output closed: it ends with 7, and leaves the files right"
 
-# What isn't a plain file is refused at once, whatever the device.
+# What isn't a plain file is refused at once, whatever the device. `recover` doesn't look at the segment that isn't active.
 for kind in folder pipe link device; do
-    for name in pacman.log pacman.a pacman.b; do
+    for name in pacman.log pacman.log2 pacman.a pacman.b; do
         mv "$name" ..
         case $kind in
         folder) mkdir "$name" ;;
@@ -113,7 +113,8 @@ for kind in folder pipe link device; do
         link) ln -s "../$name" "$name" ;;
         device) mknod "$name" c 1 5 2> ../errors || { mv "../$name" .; echo "a device as $name isn't tried: $(cat ../errors)"; continue; } ;;
         esac
-        for command in run recover; do ends 8 "$command" < /dev/null; done
+        ends 8 run < /dev/null
+        if [ "$name" != pacman.log ]; then ends 8 recover < /dev/null; fi
         rm -rf "$name"
         mv "../$name" .
     done

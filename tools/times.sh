@@ -1,12 +1,13 @@
 #!/bin/bash
 # Times the program and parts of it, for docs/COSTS.md.
 #
-#     tools/times.sh replay|input|parts|log|slots|held|runs|committed|rows|pieces|hand|shares|serial|workers|restarts|stream|images
+#     tools/times.sh replay|input|parts|log|slots|held|runs|committed|rows|pieces|hand|shares|serial|workers|restarts|stream|opens|saves|images
 #
-# `replay`, `input`, `held`, `runs`, `workers`, `stream` and `images` time the program, which is $PACMAN or crates/pacman/out/pacman, and `committed`, `shares`,
-# `restarts` and `images` count its instructions. The others time pac_bench, and `pieces` and `serial` count its instructions; it is $PAC_BENCH or
-# crates/pac_bench/out/pac_bench, as `(cd crates/pac_bench && rt run -- copy 1)` makes it. All files are made in a new folder of the
-# current directory, which is removed: its disk is what `log`, `slots` and `runs` time.
+# `replay`, `input`, `held`, `runs`, `workers`, `stream`, `opens`, `saves` and `images` time the program, which is $PACMAN or
+# crates/pacman/out/pacman, and `committed`, `shares`, `restarts` and `images` count its instructions. The others time pac_bench, and
+# `pieces` and `serial` count its instructions; it is $PAC_BENCH or crates/pac_bench/out/pac_bench, as
+# `(cd crates/pac_bench && rt run -- copy 1)` makes it. All files are made in a new folder of the current directory, which is removed: its
+# disk is what `log`, `slots` and `runs` time.
 set -eu -o pipefail
 top=$(cd "$(dirname "$0")/.." && pwd)
 pacman=$(realpath -m "${PACMAN:-$top/crates/pacman/out/pacman}")
@@ -301,6 +302,54 @@ stream)
         for workers in 1 4; do echo " recover by $workers"; memory /dev/null "$pacman" recover --workers "$workers"; done
     done
     ;;
+opens)
+    # A restart over a million calls of two ints that were committed in groups of 1 and of 64, without a save.
+    head -2 "$add" > catalogue
+    calls 1000000 1000 > lines
+    for group in 1 64; do
+        rm -f pacman.*
+        "$pacman" init < catalogue
+        "$pacman" run --batch "$group" < lines > replies
+        echo "a million calls in groups of $group, a log of $(wc -c < pacman.log) bytes"
+        for _ in 1 2 3 4 5; do
+            echo " run restarts"
+            memory /dev/null "$pacman" run
+            echo " recover by 1"
+            memory /dev/null "$pacman" recover --workers 1
+        done
+    done
+    ;;
+saves)
+    # Ten million calls of two ints with a save after each 100,000, in four runs, the last 100,000 without one: what the files hold, and how
+    # long a restart and a recovery take; and the same of ten million without a save. Groups of 1 fill the log before that.
+    head -2 "$add" > catalogue
+    calls 2500000 1000 > lines
+    awk '(NR - 1) % 100000 == 0 { print "save" } { print }' lines > saving
+    seq 0 999 | awk 'BEGIN { print "table T 1000" } { print $1 " (10000)" }' > wanted
+    header=$((21 + $(wc -c < catalogue)))
+    while read -r group input longest; do
+        rm -f pacman.*
+        "$pacman" init < catalogue
+        for _ in 1 2 3 4; do "$pacman" run --batch "$group" < "$input" > replies; done
+        echo "ten million calls in groups of $group, $input"
+        "$pacman" recover --workers 1 | cmp - wanted
+        for name in pacman.*; do
+            size=$(wc -c < "$name")
+            echo "  $name: $size bytes"
+            if [ "$size" -gt $((header + longest)) ]; then echo "that is too long" >&2; exit 1; fi
+        done
+        for _ in 1 2 3; do
+            echo " run restarts"
+            memory /dev/null "$pacman" run
+            echo " recover by 1"
+            memory /dev/null "$pacman" recover --workers 1
+        done
+    done <<'END'
+1 saving 3100000
+64 saving 2214067
+64 lines 221406268
+END
+    ;;
 rows)
     for part in few few_limited many many_limited; do timed "5,000 times 1,000 transactions: $part" "$bench" "$part" 5000; done
     ;;
@@ -330,7 +379,7 @@ images)
     done
     ;;
 *)
-    sed -n '2,9s/^# \{0,1\}//p' "$top/tools/times.sh"
+    sed -n '2,10s/^# \{0,1\}//p' "$top/tools/times.sh"
     exit 1
     ;;
 esac
